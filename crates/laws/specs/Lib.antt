@@ -1,0 +1,5 @@
+pub mod Answer
+pub mod Bytes
+pub mod Blocks
+pub mod Table
+pub mod Over
