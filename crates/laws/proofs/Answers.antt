@@ -1,6 +1,6 @@
 -- What holds of an answer that is no refusal, along a definition's tests; and answers told apart.
 -- Assumes nothing.
-use mathlib.Core.Path.{_≡_, refl, subst}
+use mathlib.Core.Path.{_≡_, refl, sym, ap, _∙_, subst}
 use mathlib.Core.Bool.{Bool, true, false}
 use mathlib.Core.List.{List}
 use Prim.Native.Nat.{ℕ}
@@ -61,3 +61,7 @@ then-given x a f h = rw h
 pub then-refused : {A B : Type 0} (x : Answer A) (n : ℕ) (vs : List ℕ) (f : A → Answer B) → x ≡ refused n vs → andThen x f ≡ refused n vs
 unfolding andThen
 then-refused x n vs f h = rw h
+
+-- What can be read back has one reading. With it a promise `read r ≡ d` settles r: any two answers that it allows are equal.
+pub one-reading : {A B : Type 0} (read : A → B) (back : B → A) → ((a : A) → back (read a) ≡ a) → (a b : A) → read a ≡ read b → a ≡ b
+one-reading read back h a b e = sym (h a) ∙ ap back e ∙ h b
