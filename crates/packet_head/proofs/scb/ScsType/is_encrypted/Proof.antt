@@ -1,0 +1,11 @@
+-- `ScsType::is_encrypted` meets its contract, by what `as_byte` ensures.
+-- Assumes nothing.
+use borrow.Author.Needs.{needs}
+use Rattle.packet_head.proofs.scb.ScsType.is_encrypted.Statement.{statement}
+use Rattle.packet_head.proofs.scb.ScsType.is_encrypted.Tie as tie
+
+returns : tie.Need-returns
+returns c = rw (c .as-byte .ensures)
+
+pub is-encrypted-spec : {M : Type 1} → statement M
+is-encrypted-spec = tie.close (tie.spec (λ c κs. search needs) returns)

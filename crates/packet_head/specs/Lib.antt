@@ -1,0 +1,3 @@
+pub mod Header
+pub mod Block
+pub mod Trailer

@@ -1,0 +1,19 @@
+// The end of a frame, by its kind.
+ghost use mathlib.Core.Path.{_≡_};
+ghost use Rattle.packet_head.specs.Trailer.{tail, isCrc};
+
+pub enum Trailer {
+    Checksum(u8),
+    Crc(u16),
+}
+
+impl Trailer {
+    pub fn is_crc(self) -> bool
+        ensures { λ r. ⌜ r ≡ isCrc (tail self) ⌝ }
+    {
+        match self {
+            Trailer::Checksum(_) => false,
+            Trailer::Crc(_) => true,
+        }
+    }
+}
