@@ -1,0 +1,4 @@
+pub mod Linear
+pub mod CrcLaws
+pub mod SumLaws
+pub mod Step

@@ -1,0 +1,13 @@
+-- `crc::crc_byte` meets its contract: what it works out by shifts is the step bit by bit.
+-- Assumes nothing.
+use borrow.Author.Needs.{needs}
+use native.Mathlib.Omega.{arith}
+use Rattle.packet_sums.proofs.Step.{shift-byte}
+use Rattle.packet_sums.proofs.crc.crc_byte.Statement.{statement}
+use Rattle.packet_sums.proofs.crc.crc_byte.Tie as tie
+
+returns : tie.Need-returns
+returns c = shift-byte (c .args .crc) (c .args .b) (omega arith) (omega arith)
+
+pub crc-byte-spec : {M : Type 1} → statement M
+crc-byte-spec = tie.close (tie.spec returns)

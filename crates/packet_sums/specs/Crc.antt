@@ -1,0 +1,35 @@
+-- The CRC (docs/RULES.md, Frame): polynomial 1021 hex, start 1D0F, high bit first, no final change.
+-- Assumes nothing.
+use Prim.Native.Nat.{ℕ, zero, suc, _*_, _/_, _%_}
+use mathlib.Core.List.{List, [], _∷_}
+use mathlib.Core.Bool.{cond}
+use lib.Bits.{bitXor}
+use lib.Dec.{eqb}
+
+-- sixteen bits that have moved up by one; where a 1 fell out at the top, the polynomial is added
+unfoldable pub reduce : ℕ → ℕ → ℕ
+reduce out c = cond (eqb out 0) c (bitXor c 0x1021)
+
+-- one bit
+unfoldable pub crcBit : ℕ → ℕ
+crcBit c = reduce (c / 32768 % 2) (c * 2 % 65536)
+
+-- n bits
+unfoldable pub crcBits : ℕ → ℕ → ℕ
+crcBits zero c = c
+crcBits (suc n) c = crcBit (crcBits n c)
+
+-- a byte goes in at the top, and eight bits are moved out
+unfoldable pub crcByte : ℕ → ℕ → ℕ
+crcByte c b = crcBits 8 (bitXor c (b * 256))
+
+unfoldable pub crcFrom : ℕ → List ℕ → ℕ
+crcFrom c [] = c
+crcFrom c (b ∷ bs) = crcFrom (crcByte c b) bs
+
+abbrev pub crcOf : List ℕ → ℕ
+crcOf s = crcFrom 0x1D0F s
+
+-- as it travels: two bytes, the low one first
+unfoldable pub lowFirst : ℕ → List ℕ
+lowFirst c = c % 256 ∷ c / 256 ∷ []
