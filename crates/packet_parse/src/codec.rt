@@ -1,0 +1,198 @@
+// Reading a frame, in the paper's order of tests.
+ghost use mathlib.Core.Path.{_≡_};
+ghost use mathlib.Core.List.{[], _∷_};
+ghost use Prim.Native.Nat.{_≤_};
+ghost use lib.ListN.{length};
+ghost use Rattle.laws.specs.Answer.{Answer.refused};
+ghost use Rattle.packet_head.specs.Header.{control};
+ghost use Rattle.packet_head.specs.Trailer.{macLen, trailerLen};
+ghost use Rattle.packet_parse.specs.Frame.{macPlace, macAt, blockPlace, headOf, headAnswer, partsOf, frameOf, parseOf, parsed};
+use super::trailing::TrailerAnswer;
+use super::trailing::check;
+use super::trailing::word;
+use packet_head::Address;
+use packet_head::ControlAnswer;
+use packet_head::ControlByte;
+use packet_head::Scb;
+use packet_head::ScbAnswer;
+use packet_head::ScsType;
+use packet_head::Trailer;
+use refusal::Refusal;
+
+// What the first five bytes say.
+pub struct FrameHead {
+    pub addr: Address,
+    pub len: usize,
+    pub ctrl: ControlByte,
+}
+
+pub enum HeadAnswer {
+    Good(FrameHead),
+    Refused(Refusal),
+}
+
+pub enum BlockPart {
+    Absent,
+    At {
+        ty: ScsType,
+        start: usize,
+        len: usize,
+    },
+}
+
+pub enum MacPart {
+    Absent,
+    At(usize),
+}
+
+// A frame that was read. Each place is counted from the frame's first byte.
+pub struct ParsedPacket {
+    pub addr: Address,
+    pub ctrl: ControlByte,
+    pub block: BlockPart,
+    pub code: u8,
+    pub data_start: usize,
+    pub data_len: usize,
+    pub mac: MacPart,
+    pub trailer: Trailer,
+    pub len: usize,
+}
+
+pub enum Parsed {
+    Good(ParsedPacket),
+    Refused(Refusal),
+}
+
+fn mac_len(mac: bool) -> usize
+    ensures { λ r. ⌜ (r ≡ macLen mac) × (r ≤ 4) ⌝ }
+{
+    if mac { 4 } else { 0 }
+}
+
+fn trailer_len(crc: bool) -> usize
+    ensures { λ r. ⌜ (r ≡ trailerLen crc) × (r ≤ 2) × (1 ≤ r) ⌝ }
+{
+    if crc { 2 } else { 1 }
+}
+
+fn mac_part(mac: bool, at: usize) -> MacPart
+    ensures { λ r. ⌜ macPlace r ≡ macAt mac at ⌝ }
+{
+    if mac {
+        MacPart::At(at)
+    } else {
+        MacPart::Absent
+    }
+}
+
+fn bad_length(n: usize) -> Parsed
+    ensures { λ r. ⌜ parsed r ≡ refused 4 (n ∷ n ∷ []) ⌝ }
+{
+    Parsed::Refused(Refusal::BadLength {
+        declared: n,
+        actual: n,
+    })
+}
+
+// What follows the block, or the control byte where there is none. The code is at `at`.
+fn parse_parts(
+    f: &[u8],
+    addr: Address,
+    ctrl: ControlByte,
+    block: BlockPart,
+    at: usize,
+    mac: bool,
+) -> Parsed
+    requires { ⌜ at ≤ 65535 ⌝ }
+    ensures { λ r. ⌜ parsed r ≡ partsOf (now (f .entry)) (addr .0) (control ctrl) (blockPlace block) at mac ⌝ }
+{
+    let n = f.len();
+    let t = trailer_len(ctrl.crc);
+    if n < at + 1 + t {
+        return bad_length(n);
+    }
+    let m = mac_len(mac);
+    if n < at + 1 + m + t {
+        return bad_length(n);
+    }
+    match check(f, ctrl.crc) {
+        TrailerAnswer::Good(trailer) => Parsed::Good(ParsedPacket {
+            addr,
+            ctrl,
+            block,
+            code: f[at],
+            data_start: at + 1,
+            data_len: n - (at + 1 + m + t),
+            mac: mac_part(mac, n - (m + t)),
+            trailer,
+            len: n,
+        }),
+        TrailerAnswer::Refused(e) => Parsed::Refused(e),
+    }
+}
+
+// The frame f, which is as long as its LEN says.
+fn parse_frame(f: &[u8], addr: Address, ctrl: ControlByte) -> Parsed
+    ensures { λ r. ⌜ parsed r ≡ frameOf (now (f .entry)) (addr .0) (control ctrl) ⌝ }
+{
+    let t = trailer_len(ctrl.crc);
+    if f.len() < 6 + t {
+        return bad_length(f.len());
+    }
+    if ctrl.block {
+        match Scb::parse(&f[5..]) {
+            ScbAnswer::Good(b) => {
+                let len = b.data_len as usize;
+                let ty = b.ty;
+                let block = BlockPart::At { ty, start: 7, len };
+                parse_parts(f, addr, ctrl, block, 7 + len, ty.has_mac())
+            }
+            ScbAnswer::Refused(e) => Parsed::Refused(e),
+        }
+    } else {
+        parse_parts(f, addr, ctrl, BlockPart::Absent, 5, false)
+    }
+}
+
+// The first five bytes: whose frame, how long, and its control byte.
+pub fn head(buf: &[u8]) -> HeadAnswer
+    ensures { λ r. ⌜ headAnswer r ≡ headOf (now (buf .entry)) ⌝ }
+{
+    if buf.len() < 5 {
+        return HeadAnswer::Refused(Refusal::Truncated {
+            have: buf.len(),
+            need: 5,
+        });
+    }
+    if buf[0] != 0x53 {
+        return HeadAnswer::Refused(Refusal::BadSom(buf[0]));
+    }
+    match ControlByte::decode(buf[4]) {
+        ControlAnswer::Good(ctrl) => HeadAnswer::Good(FrameHead {
+            addr: Address::from_raw(buf[1]),
+            len: word(buf[2], buf[3]) as usize,
+            ctrl,
+        }),
+        ControlAnswer::Refused(e) => HeadAnswer::Refused(e),
+    }
+}
+
+// The frame at the start of buf.
+pub fn parse(buf: &[u8]) -> Parsed
+    ensures { λ r. ⌜ parsed r ≡ parseOf (now (buf .entry)) ⌝ }
+{
+    match head(buf) {
+        HeadAnswer::Good(h) => {
+            let len = h.len;
+            if buf.len() < len {
+                Parsed::Refused(Refusal::Truncated {
+                    have: buf.len(),
+                    need: len,
+                })
+            } else {
+                parse_frame(&buf[..len], h.addr, h.ctrl)
+            }
+        }
+        HeadAnswer::Refused(e) => Parsed::Refused(e),
+    }
+}

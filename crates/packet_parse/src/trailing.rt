@@ -1,0 +1,56 @@
+// Whether a frame ends as its bytes want.
+ghost use mathlib.Core.Path.{_≡_};
+ghost use mathlib.Core.Bool.{true, false};
+ghost use Prim.Native.Nat.{_≤_, _+_, _*_};
+ghost use lib.ListN.{length};
+ghost use Rattle.packet_parse.specs.Trailer.{trailerOf, trailerAnswer};
+use packet_head::Trailer;
+use refusal::Refusal;
+
+pub(crate) enum TrailerAnswer {
+    Good(Trailer),
+    Refused(Refusal),
+}
+
+// Two bytes, the low one first.
+pub(crate) fn word(lo: u8, hi: u8) -> u16
+    ensures { λ r. ⌜ r ≡ lo + 256 * hi ⌝ }
+{
+    (lo as u16) + 256 * (hi as u16)
+}
+
+fn check_crc(f: &[u8]) -> TrailerAnswer
+    requires { ⌜ 2 ≤ length (now f) ⌝ }
+    ensures { λ r. ⌜ trailerAnswer r ≡ trailerOf (now (f .entry)) true ⌝ }
+{
+    let n = f.len();
+    let got = word(f[n - 2], f[n - 1]);
+    let want = packet_sums::crc16(&f[..n - 2]);
+    if got == want {
+        TrailerAnswer::Good(Trailer::Crc(got))
+    } else {
+        TrailerAnswer::Refused(Refusal::BadCrc { got, want })
+    }
+}
+
+fn check_sum(f: &[u8]) -> TrailerAnswer
+    requires { ⌜ 2 ≤ length (now f) ⌝ }
+    ensures { λ r. ⌜ trailerAnswer r ≡ trailerOf (now (f .entry)) false ⌝ }
+{
+    let n = f.len();
+    let got = f[n - 1];
+    let want = packet_sums::checksum8(&f[..n - 1]);
+    if got == want {
+        TrailerAnswer::Good(Trailer::Checksum(got))
+    } else {
+        TrailerAnswer::Refused(Refusal::BadChecksum { got, want })
+    }
+}
+
+// The trailer of the whole frame f.
+pub(crate) fn check(f: &[u8], crc: bool) -> TrailerAnswer
+    requires { ⌜ 2 ≤ length (now f) ⌝ }
+    ensures { λ r. ⌜ trailerAnswer r ≡ trailerOf (now (f .entry)) crc ⌝ }
+{
+    if crc { check_crc(f) } else { check_sum(f) }
+}
