@@ -1,0 +1,94 @@
+-- `list` meets its contract: each turn passes a frame, which lies within what is left.
+-- Assumes nothing.
+use Prim.Native.Nat.{ℕ, _+_, _-_, _≤_, _<_}
+use mathlib.Core.Path.{_≡_, sym, ap, _∙_}
+use mathlib.Core.List.{List}
+use lib.ListN.{length, take, drop, length-drop}
+use lib.Seq.{take-all}
+use native.Mathlib.Omega.{arith}
+use Rattle.laws.specs.Answer.{Answer.given}
+use Rattle.refusal.specs.Paper.{refusalOf}
+use Rattle.packet_parse.specs.Frame.{Fields, fields, parsed, parseOf}
+use Rattle.packet_parse.proofs.Within.{Inside, accepted-inside}
+use Rattle.listing.proofs.Passing.{Passed, passed-none, passed-more, passed-refused, passed-all}
+use borrow.Author.Needs.{needs}
+use Rattle.listing.proofs.list.Statement.{statement}
+use Rattle.listing.proofs.list.Tie as tie
+
+abbrev Inv-loop : tie.InvT-loop
+Inv-loop capture at₀ at = Passed capture at
+
+abbrev μ-loop : tie.MeasureT-loop
+μ-loop capture at₀ at = length capture - at
+
+rest-of : (s : List ℕ) (at : ℕ) → take (length s - at) (drop at s) ≡ drop at s
+rest-of s at = take-all (length s - at) (drop at s) (simp length-drop (omega arith))
+
+-- where a frame was read: the turn, the place, the capture, and the frame
+abbrev turn : (c : tie.After-struct-known Inv-loop μ-loop) → tie.In-loop Inv-loop μ-loop
+turn c = c .before .before .before .before .before .before .before
+
+abbrev place : tie.After-struct-known Inv-loop μ-loop → ℕ
+place c = turn c .before .loop .at
+
+abbrev all : tie.After-struct-known Inv-loop μ-loop → List ℕ
+all c = turn c .before .before .before .before .before .args .capture .now
+
+abbrev frame : tie.After-struct-known Inv-loop μ-loop → Fields
+frame c = fields (c .before .before .before .p .given .0 .0)
+
+found : (c : tie.After-struct-known Inv-loop μ-loop) → parseOf (drop (place c) (all c)) ≡ given (frame c)
+found c = ap parseOf (sym (rest-of (all c) (place c))) ∙ sym (c .before .before .before .before .before .parse .ensures) ∙ ap parsed (c .before .before .before .p .given .1)
+
+inside : (c : tie.After-struct-known Inv-loop μ-loop) → Inside (length (all c) - place c) (frame c)
+inside c = let i = accepted-inside (drop (place c) (all c)) (frame c) (found c) in
+    rw (length-drop (place c) (all c)) at i
+
+loop-holds : tie.Need-loop-holds Inv-loop μ-loop
+loop-holds c = passed-none (c .before .before .before .args .capture .now)
+
+add-at : tie.Need-add-at Inv-loop μ-loop
+add-at c = let i = inside c in omega (arith, i .least, i .most, turn c .before .loop .inv .within)
+
+loop-less : tie.Need-loop-less Inv-loop μ-loop
+loop-less c = let i = inside c in omega (arith, i .least, i .most, turn c .before .loop .inv .within)
+
+loop-again : tie.Need-loop-again Inv-loop μ-loop
+loop-again c =
+    let i = inside c in
+    let h : place c < length (all c) = turn c .loop-test .taken in
+    passed-more (all c) (place c) (frame c) h (found c) (omega (arith, i .most, length-drop (place c) (all c))) (i .least) (turn c .before .loop .inv)
+
+returns : tie.Need-returns Inv-loop μ-loop
+returns c =
+    let l = c .before .before .before .before .before .before .before .loop in
+    let s = c .before .before .before .before .before .before .before .before .before .before .before .args .capture .now in
+    let e : parseOf (drop (l .at) s) ≡ refusalOf (c .before .before .e .given .0 .0) =
+    ap parseOf (sym (rest-of s (l .at))) ∙ sym (c .before .before .before .before .parse .ensures) ∙ ap parsed (c .before .before .e .given .1) in
+    passed-refused s (l .at) _ _ (c .before .before .before .before .before .before .loop-test .taken) e (l .inv)
+
+returns-2 : tie.Need-returns-2 Inv-loop μ-loop
+returns-2 c = passed-all _ _ (c .loop-test .left) (c .before .loop .inv)
+
+pub list-spec : {M : Type 1} → statement M
+list-spec =
+    tie.close
+    (tie.spec
+    Inv-loop
+    μ-loop
+    (λ c. search needs)
+    (λ c κs. search needs)
+    loop-holds
+    (λ c. search needs)
+    (λ c. search needs)
+    (λ c. search needs)
+    (λ c κs. search needs)
+    (λ c. search needs)
+    (λ c κs. search needs)
+    add-at
+    loop-less
+    loop-again
+    (λ c. search needs)
+    (λ c κs. search needs)
+    returns
+    returns-2)
