@@ -8,8 +8,9 @@ use native.Mathlib.Nat.{mod-lt}
 use native.Mathlib.Omega.{arith}
 use lib.Bits.{bitXor, xor-comm, xor-self, xor-zero-r, xor-shr, xor-mod, xor-lt}
 use lib.Dec.{eqb, lit<}
-use lib.ListN.{length, getD, drop}
-use Rattle.laws.specs.Bytes.{xorl}
+use lib.ListN.{length, getD, take, drop, take-append-drop, length-replicate}
+use lib.Seq.{take-suc}
+use Rattle.laws.specs.Bytes.{xorl, zeros}
 use Rattle.laws.proofs.Xor.{bit-ind, xor-assoc}
 use Rattle.laws.proofs.Lists.{drop-next}
 use Rattle.packet_sums.specs.Crc.{reduce, crcBit, crcBits, crcByte, crcFrom, crcOf}
@@ -32,6 +33,14 @@ crc-append c (x ∷ a) b = crc-append (crcByte c x) a b
 
 pub crc-drop : (s : List ℕ) (c i : ℕ) → i < length s → crcFrom c (drop i s) ≡ crcFrom (crcByte c (getD s i 0)) (drop (i + 1) s)
 crc-drop s c i h = ap (crcFrom c) (drop-next s i h) ∙ crc-cons c (getD s i 0) (drop (i + 1) s)
+
+pub crc-take : (s : List ℕ) (c k : ℕ) → k < length s → crcFrom c (take (suc k) s) ≡ crcByte (crcFrom c (take k s)) (getD s k 0)
+crc-take s c k h =
+    let d = crcFrom c (take k s) in
+    ap (crcFrom c) (take-suc s k 0 h) ∙ crc-append c (take k s) (getD s k 0 ∷ []) ∙ crc-cons d (getD s k 0) [] ∙ crc-nil (crcByte d (getD s k 0))
+
+pub crc-cut : (s : List ℕ) (c k : ℕ) → crcFrom (crcFrom c (take k s)) (drop k s) ≡ crcFrom c s
+crc-cut s c k = sym (crc-append c (take k s) (drop k s)) ∙ ap (crcFrom c) (take-append-drop k s)
 
 -- ---- bounds
 
@@ -102,3 +111,13 @@ crc-linear [] (b ∷ t) c d e = absurd (omega arith)
 crc-linear (a ∷ s) [] c d e = absurd (omega arith)
 crc-linear (a ∷ s) (b ∷ t) c d e =
     ap (λ (n : ℕ). crcFrom n (xorl s t)) (byte-linear c d a b) ∙ crc-linear s t (crcByte c a) (crcByte d b) (omega arith)
+
+xorl-zeros : (s : List ℕ) → xorl (zeros (length s)) s ≡ s
+unfolding xorl
+xorl-zeros [] = refl
+xorl-zeros (b ∷ s) = ap (λ (t : List ℕ). b ∷ t) (xorl-zeros s)
+
+-- the part of the value so far, and the part of the bytes
+pub crc-split : (c : ℕ) (s : List ℕ) → crcFrom c s ≡ bitXor (crcFrom c (zeros (length s))) (crcFrom 0 s)
+crc-split c s =
+    sym (ap₂ crcFrom (xor-zero-r c) (xorl-zeros s)) ∙ crc-linear (zeros (length s)) s c 0 (length-replicate {A = ℕ} (length s) 0)

@@ -1,4 +1,5 @@
 pub mod Linear
-pub mod CrcLaws
 pub mod SumLaws
+pub mod CrcLaws
+pub mod WordLaws
 pub mod Step

@@ -1,2 +1,3 @@
 pub mod Checksum
 pub mod Crc
+pub mod Word
