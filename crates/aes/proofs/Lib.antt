@@ -1,0 +1,5 @@
+mod Rounds
+mod Steps
+pub mod Inverse
+pub mod Laws
+pub mod Expansion

@@ -1,0 +1,4 @@
+pub mod Tables
+pub mod Inverse
+pub mod Sums
+pub mod Linear

@@ -1,0 +1,204 @@
+-- x times a byte is linear, and the products by the constants of MixColumns are sums of its powers.
+-- Assumes nothing.
+use mathlib.Core.Path.{_≡_, refl, sym, ap, ap₂, _∙_}
+use Prim.Native.Nat.{ℕ, zero, suc, _+_, _*_, _/_, _%_, _^_, _<_}
+use native.Mathlib.Nat.{add-zero}
+use native.Mathlib.Omega.{arith}
+use lib.Dec.{lit<}
+use lib.Bits.{bitXor, xor-shr, xor-mod, xor-block}
+use Rattle.aes_field.specs.Field.{_⊕_, xtime, bitTimes, bitsTimes, _•_}
+use Rattle.laws.proofs.Xor.{bit-ind}
+use Rattle.aes_field.proofs.Sums.{⊕-assoc, ⊕-comm, ⊕-self, zero-⊕, ⊕-zero, ⊕-lt, ⊕-left-comm}
+
+pub ruleset sums = (⊕-assoc, ⊕-comm, ⊕-left-comm)
+
+medial : (a b c d : ℕ) → (a ⊕ b) ⊕ (c ⊕ d) ≡ (a ⊕ c) ⊕ (b ⊕ d)
+medial a b c d = simp sums
+
+⊕-double : (a b : ℕ) → (a ⊕ b) * 2 ≡ (a * 2) ⊕ (b * 2)
+unfolding _⊕_
+⊕-double a b =
+    sym (add-zero (bitXor a b * 2)) ∙ sym (xor-block 1 a b 0 0 (lit< tt) (lit< tt)) ∙ ap₂ bitXor (add-zero (a * 2)) (add-zero (b * 2))
+
+⊕-mod : (a b : ℕ) → (a ⊕ b) % 256 ≡ (a % 256) ⊕ (b % 256)
+unfolding _⊕_
+⊕-mod a b = xor-mod a b 8
+
+⊕-top : (a b : ℕ) → (a ⊕ b) / 128 ≡ (a / 128) ⊕ (b / 128)
+unfolding _⊕_
+⊕-top a b = xor-shr a b 7
+
+bits27 : (x : ℕ) → x < 2 → (y : ℕ) → y < 2 → (x ⊕ y) * 27 ≡ (x * 27) ⊕ (y * 27)
+unfolding _⊕_
+bits27 =
+    bit-ind (λ x. (y : ℕ) → y < 2 → (x ⊕ y) * 27 ≡ (x * 27) ⊕ (y * 27))
+    (bit-ind (λ y. (0 ⊕ y) * 27 ≡ (0 * 27) ⊕ (y * 27)) refl refl)
+    (bit-ind (λ y. (1 ⊕ y) * 27 ≡ (1 * 27) ⊕ (y * 27)) refl refl)
+
+pub xtime-⊕ : (a b : ℕ) → a < 256 → b < 256 → xtime (a ⊕ b) ≡ xtime a ⊕ xtime b
+unfolding xtime
+xtime-⊕ a b ha hb =
+    ap₂ _⊕_
+    (ap (λ (x : ℕ). x % 256) (⊕-double a b) ∙ ⊕-mod (a * 2) (b * 2))
+    (ap (λ (x : ℕ). x * 27) (⊕-top a b) ∙ bits27 (a / 128) (omega arith) (b / 128) (omega arith))
+    ∙ medial (a * 2 % 256) (b * 2 % 256) (a / 128 * 27) (b / 128 * 27)
+
+pub xtime-lt : {a : ℕ} → a < 256 → xtime a < 256
+unfolding xtime
+xtime-lt {a} h = ⊕-lt (omega arith) (omega arith)
+
+⊕-lt4 : {a b c d : ℕ} → a < 256 → b < 256 → c < 256 → d < 256 → a ⊕ b ⊕ c ⊕ d < 256
+⊕-lt4 ha hb hc hd = ⊕-lt (⊕-lt (⊕-lt ha hb) hc) hd
+
+pub ruleset zeros = (zero-⊕, ⊕-zero)
+
+pub times2 : (a : ℕ) → 2 • a ≡ xtime a
+unfolding _•_ bitsTimes
+times2 a = simp zeros
+
+pub times3 : (a : ℕ) → 3 • a ≡ a ⊕ xtime a
+unfolding _•_ bitsTimes
+times3 a = simp zeros
+
+pub times9 : (a : ℕ) → 9 • a ≡ a ⊕ xtime (xtime (xtime a))
+unfolding _•_ bitsTimes
+times9 a = simp zeros
+
+pub times11 : (a : ℕ) → 11 • a ≡ a ⊕ (xtime a ⊕ xtime (xtime (xtime a)))
+unfolding _•_ bitsTimes
+times11 a = simp zeros
+
+pub times13 : (a : ℕ) → 13 • a ≡ a ⊕ (xtime (xtime a) ⊕ xtime (xtime (xtime a)))
+unfolding _•_ bitsTimes
+times13 a = simp zeros
+
+pub times14 : (a : ℕ) → 14 • a ≡ xtime a ⊕ (xtime (xtime a) ⊕ xtime (xtime (xtime a)))
+unfolding _•_ bitsTimes
+times14 a = simp zeros
+
+pub mixed : (a b c d : ℕ) → a < 256 → b < 256 → xtime (a ⊕ b) ⊕ b ⊕ c ⊕ d ≡ 2 • a ⊕ 3 • b ⊕ c ⊕ d
+mixed a b c d ha hb = simp (times2, times3, xtime-⊕ a b ha hb, sums)
+
+pub unmixed : (a b c d : ℕ) → a < 256 → b < 256 → c < 256 → d < 256
+    → xtime (xtime (xtime (a ⊕ b ⊕ c ⊕ d) ⊕ a ⊕ c) ⊕ a ⊕ b) ⊕ b ⊕ c ⊕ d ≡ 14 • a ⊕ 11 • b ⊕ 13 • c ⊕ 9 • d
+unmixed a b c d ha hb hc hd =
+    let xa : xtime a < 256 = xtime-lt ha in
+    let xb : xtime b < 256 = xtime-lt hb in
+    let xc : xtime c < 256 = xtime-lt hc in
+    let xd : xtime d < 256 = xtime-lt hd in
+    let ya : xtime (xtime a) < 256 = xtime-lt xa in
+    let yb : xtime (xtime b) < 256 = xtime-lt xb in
+    let yc : xtime (xtime c) < 256 = xtime-lt xc in
+    let yd : xtime (xtime d) < 256 = xtime-lt xd in
+    simp (times9, times11, times13, times14, xtime-⊕, ⊕-lt, ⊕-lt4) (simp sums)
+
+bitTimes-⊕ : (d x y : ℕ) → bitTimes d (x ⊕ y) ≡ bitTimes d x ⊕ bitTimes d y
+bitTimes-⊕ zero x y = sym (zero-⊕ 0)
+bitTimes-⊕ (suc d) x y = refl
+
+bitTimes-lt : (d : ℕ) {x : ℕ} → x < 256 → bitTimes d x < 256
+bitTimes-lt zero h = lit< tt
+bitTimes-lt (suc d) h = h
+
+bitsTimes-⊕ : (n b x y : ℕ) → x < 256 → y < 256 → bitsTimes n b (x ⊕ y) ≡ bitsTimes n b x ⊕ bitsTimes n b y
+unfolding bitsTimes
+bitsTimes-⊕ zero b x y hx hy = sym (zero-⊕ 0)
+bitsTimes-⊕ (suc n) b x y hx hy =
+    ap₂ _⊕_ (bitTimes-⊕ (b % 2) x y)
+    (ap (bitsTimes n (b / 2)) (xtime-⊕ x y hx hy) ∙ bitsTimes-⊕ n (b / 2) (xtime x) (xtime y) (xtime-lt hx) (xtime-lt hy))
+    ∙ medial (bitTimes (b % 2) x) (bitTimes (b % 2) y) (bitsTimes n (b / 2) (xtime x)) (bitsTimes n (b / 2) (xtime y))
+
+bitsTimes-lt : (n b : ℕ) {x : ℕ} → x < 256 → bitsTimes n b x < 256
+unfolding bitsTimes
+bitsTimes-lt zero b h = lit< tt
+bitsTimes-lt (suc n) b h = ⊕-lt (bitTimes-lt (b % 2) h) (bitsTimes-lt n (b / 2) (xtime-lt h))
+
+-- the product is linear in its second factor
+pub •-⊕ : (k x y : ℕ) → x < 256 → y < 256 → k • (x ⊕ y) ≡ k • x ⊕ k • y
+unfolding _•_
+•-⊕ k x y hx hy = bitsTimes-⊕ 8 k x y hx hy
+
+pub •-lt : (k : ℕ) {x : ℕ} → x < 256 → k • x < 256
+unfolding _•_
+•-lt k h = bitsTimes-lt 8 k h
+
+pub •-⊕4 : (k w x y z : ℕ) → w < 256 → x < 256 → y < 256 → z < 256 → k • (w ⊕ x ⊕ y ⊕ z) ≡ k • w ⊕ k • x ⊕ k • y ⊕ k • z
+•-⊕4 k w x y z hw hx hy hz =
+    •-⊕ k (w ⊕ x ⊕ y) z (⊕-lt (⊕-lt hw hx) hy) hz
+    ∙ ap (λ (m : ℕ). m ⊕ k • z) (•-⊕ k (w ⊕ x) y (⊕-lt hw hx) hy ∙ ap (λ (m : ℕ). m ⊕ k • y) (•-⊕ k w x hw hx))
+
+⊕-back : (a b : ℕ) → a ⊕ (a ⊕ b) ≡ b
+⊕-back a b = sym (⊕-assoc a a b) ∙ ap (λ (x : ℕ). x ⊕ b) (⊕-self a) ∙ zero-⊕ b
+
+-- sixteen terms, row by row and column by column
+circle : (a0 b0 c0 d0 a1 b1 c1 d1 a2 b2 c2 d2 a3 b3 c3 d3 : ℕ)
+    → (a0 ⊕ b0 ⊕ c0 ⊕ d0) ⊕ (b1 ⊕ c1 ⊕ d1 ⊕ a1) ⊕ (c2 ⊕ d2 ⊕ a2 ⊕ b2) ⊕ (d3 ⊕ a3 ⊕ b3 ⊕ c3)
+    ≡ (a0 ⊕ a1 ⊕ a2 ⊕ a3) ⊕ (b0 ⊕ b1 ⊕ b2 ⊕ b3) ⊕ (c0 ⊕ c1 ⊕ c2 ⊕ c3) ⊕ (d0 ⊕ d1 ⊕ d2 ⊕ d3)
+circle a0 b0 c0 d0 a1 b1 c1 d1 a2 b2 c2 d2 a3 b3 c3 d3 = simp sums
+
+-- the coefficients of the products of the two matrices, one way and the other: 1 and 0
+module _ (v : ℕ) (h : v < 256) (x1 : xtime v < 256) (x2 : xtime (xtime v) < 256) (x3 : xtime (xtime (xtime v)) < 256) where
+  one : 14 • (2 • v) ⊕ 11 • v ⊕ 13 • v ⊕ 9 • (3 • v) ≡ v
+  one = simp (times2, times3, times9, times11, times13, times14, xtime-⊕) (simp (sums, ⊕-self, ⊕-back, zeros))
+
+  none1 : 14 • (3 • v) ⊕ 11 • (2 • v) ⊕ 13 • v ⊕ 9 • v ≡ 0
+  none1 = simp (times2, times3, times9, times11, times13, times14, xtime-⊕) (simp (sums, ⊕-self, ⊕-back, zeros))
+
+  none2 : 14 • v ⊕ 11 • (3 • v) ⊕ 13 • (2 • v) ⊕ 9 • v ≡ 0
+  none2 = simp (times2, times3, times9, times11, times13, times14, xtime-⊕) (simp (sums, ⊕-self, ⊕-back, zeros))
+
+  none3 : 14 • v ⊕ 11 • v ⊕ 13 • (3 • v) ⊕ 9 • (2 • v) ≡ 0
+  none3 = simp (times2, times3, times9, times11, times13, times14, xtime-⊕) (simp (sums, ⊕-self, ⊕-back, zeros))
+
+  one-back : 2 • (14 • v) ⊕ 3 • (9 • v) ⊕ 13 • v ⊕ 11 • v ≡ v
+  one-back = simp (times2, times3, times9, times11, times13, times14, xtime-⊕, ⊕-lt) (simp (sums, ⊕-self, ⊕-back, zeros))
+
+  none1-back : 2 • (11 • v) ⊕ 3 • (14 • v) ⊕ 9 • v ⊕ 13 • v ≡ 0
+  none1-back = simp (times2, times3, times9, times11, times13, times14, xtime-⊕, ⊕-lt) (simp (sums, ⊕-self, ⊕-back, zeros))
+
+  none2-back : 2 • (13 • v) ⊕ 3 • (11 • v) ⊕ 14 • v ⊕ 9 • v ≡ 0
+  none2-back = simp (times2, times3, times9, times11, times13, times14, xtime-⊕, ⊕-lt) (simp (sums, ⊕-self, ⊕-back, zeros))
+
+  none3-back : 2 • (9 • v) ⊕ 3 • (13 • v) ⊕ 11 • v ⊕ 14 • v ≡ 0
+  none3-back = simp (times2, times3, times9, times11, times13, times14, xtime-⊕, ⊕-lt) (simp (sums, ⊕-self, ⊕-back, zeros))
+
+q2 : {v : ℕ} → v < 256 → xtime (xtime v) < 256
+q2 h = xtime-lt (xtime-lt h)
+
+q3 : {v : ℕ} → v < 256 → xtime (xtime (xtime v)) < 256
+q3 h = xtime-lt (q2 h)
+
+abbrev pub m : ℕ → ℕ → ℕ → ℕ → ℕ
+m a b c d = 2 • a ⊕ 3 • b ⊕ c ⊕ d
+
+abbrev pub w : ℕ → ℕ → ℕ → ℕ → ℕ
+w a b c d = 14 • a ⊕ 11 • b ⊕ 13 • c ⊕ 9 • d
+
+pub unmix-mix : (a b c d : ℕ) → a < 256 → b < 256 → c < 256 → d < 256
+    → w (m a b c d) (m b c d a) (m c d a b) (m d a b c) ≡ a
+unmix-mix a b c d ha hb hc hd =
+    ap₂ _⊕_ (ap₂ _⊕_ (ap₂ _⊕_
+    (•-⊕4 14 (2 • a) (3 • b) c d (•-lt 2 ha) (•-lt 3 hb) hc hd)
+    (•-⊕4 11 (2 • b) (3 • c) d a (•-lt 2 hb) (•-lt 3 hc) hd ha))
+    (•-⊕4 13 (2 • c) (3 • d) a b (•-lt 2 hc) (•-lt 3 hd) ha hb))
+    (•-⊕4 9 (2 • d) (3 • a) b c (•-lt 2 hd) (•-lt 3 ha) hb hc)
+    ∙ circle (14 • (2 • a)) (14 • (3 • b)) (14 • c) (14 • d)
+    (11 • a) (11 • (2 • b)) (11 • (3 • c)) (11 • d)
+    (13 • a) (13 • b) (13 • (2 • c)) (13 • (3 • d))
+    (9 • (3 • a)) (9 • b) (9 • c) (9 • (2 • d))
+    ∙ ap₂ _⊕_ (ap₂ _⊕_ (ap₂ _⊕_ (one a ha (xtime-lt ha) (q2 ha) (q3 ha)) (none1 b hb (xtime-lt hb) (q2 hb) (q3 hb))) (none2 c hc (xtime-lt hc) (q2 hc) (q3 hc))) (none3 d hd (xtime-lt hd) (q2 hd) (q3 hd))
+    ∙ simp zeros
+
+pub mix-unmix : (a b c d : ℕ) → a < 256 → b < 256 → c < 256 → d < 256
+    → m (w a b c d) (w b c d a) (w c d a b) (w d a b c) ≡ a
+mix-unmix a b c d ha hb hc hd =
+    ap₂ _⊕_ (ap₂ _⊕_ (ap₂ _⊕_
+    (•-⊕4 2 (14 • a) (11 • b) (13 • c) (9 • d) (•-lt 14 ha) (•-lt 11 hb) (•-lt 13 hc) (•-lt 9 hd))
+    (•-⊕4 3 (14 • b) (11 • c) (13 • d) (9 • a) (•-lt 14 hb) (•-lt 11 hc) (•-lt 13 hd) (•-lt 9 ha)))
+    refl) refl
+    ∙ circle (2 • (14 • a)) (2 • (11 • b)) (2 • (13 • c)) (2 • (9 • d))
+    (3 • (9 • a)) (3 • (14 • b)) (3 • (11 • c)) (3 • (13 • d))
+    (13 • a) (9 • b) (14 • c) (11 • d)
+    (11 • a) (13 • b) (9 • c) (14 • d)
+    ∙ ap₂ _⊕_ (ap₂ _⊕_ (ap₂ _⊕_ (one-back a ha (xtime-lt ha) (q2 ha) (q3 ha)) (none1-back b hb (xtime-lt hb) (q2 hb) (q3 hb))) (none2-back c hc (xtime-lt hc) (q2 hc) (q3 hc))) (none3-back d hd (xtime-lt hd) (q2 hd) (q3 hd))
+    ∙ simp zeros

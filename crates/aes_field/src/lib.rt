@@ -1,0 +1,3 @@
+// FIPS 197: the field of bytes, and the two substitution tables.
+pub mod field;
+pub mod sbox;
