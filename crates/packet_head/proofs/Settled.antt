@@ -10,9 +10,7 @@ use Rattle.refusal.proofs.OneReading.{named, told-back}
 use Rattle.packet_head.specs.Header.{Control, addressAnswer, sqnAnswer, controlAnswer, encodedAnswer}
 use Rattle.packet_head.specs.Block.{BlockRead, typeOf, scsAnswer, scbAnswer}
 use Rattle.packet_head.specs.Trailer.{Tail, Tail.checksum, Tail.crc, tail}
-use Rattle.packet_head.specs.declared.header.Address.{Address}
 use Rattle.packet_head.specs.declared.header.AddressAnswer.{AddressAnswer}
-use Rattle.packet_head.specs.declared.header.Sqn.{Sqn}
 use Rattle.packet_head.specs.declared.header.SqnAnswer.{SqnAnswer}
 use Rattle.packet_head.specs.declared.header.ControlByte.{ControlByte}
 use Rattle.packet_head.specs.declared.header.ControlAnswer.{ControlAnswer}

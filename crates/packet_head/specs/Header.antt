@@ -4,11 +4,9 @@ use Prim.Native.Nat.{ℕ, _+_, _/_, _%_}
 use mathlib.Core.List.{[], _∷_}
 use mathlib.Core.Bool.{Bool, cond}
 use lib.Dec.{ltb, leb, eqb}
-use Rattle.laws.specs.Answer.{Answer, Answer.given, Answer.refused, refuseIf}
+use Rattle.laws.specs.Answer.{Answer, Answer.given, refuseIf}
 use Rattle.refusal.specs.Paper.{refusalOf}
-use Rattle.packet_head.specs.declared.header.Address.{Address}
 use Rattle.packet_head.specs.declared.header.AddressAnswer.{AddressAnswer}
-use Rattle.packet_head.specs.declared.header.Sqn.{Sqn}
 use Rattle.packet_head.specs.declared.header.SqnAnswer.{SqnAnswer}
 use Rattle.packet_head.specs.declared.header.ControlByte.{ControlByte}
 use Rattle.packet_head.specs.declared.header.ControlAnswer.{ControlAnswer}

@@ -10,7 +10,6 @@ use Rattle.packet_head.specs.declared.scb.ScsType.{ScsType}
 use Rattle.packet_head.specs.declared.trailer.Trailer.{Trailer}
 use Rattle.packet_head.proofs.Settled.{controlFrom, typeFrom, type-back, trailerFrom, trailer-back}
 use Rattle.packet_parse.specs.Frame.{Head, Fields, BlockAt, BlockAt.noBlock, BlockAt.blockAt, MacAt, MacAt.noMac, MacAt.macFrom, headAnswer, blockPlace, macPlace, parsed}
-use Rattle.packet_parse.specs.declared.codec.FrameHead.{FrameHead}
 use Rattle.packet_parse.specs.declared.codec.HeadAnswer.{HeadAnswer}
 use Rattle.packet_parse.specs.declared.codec.BlockPart.{BlockPart}
 use Rattle.packet_parse.specs.declared.codec.MacPart.{MacPart}

@@ -6,12 +6,12 @@ use mathlib.Core.List.{List}
 use Prim.Native.Nat.{ℕ, _+_, _-_, _≤_, _<_}
 use native.Mathlib.Omega.{arith}
 use borrow.Author.Tests.{ltb-false}
-use lib.ListN.{length, take, drop, length-drop}
+use lib.ListN.{length, take}
 use lib.Seq.{length-take-le}
-use Rattle.laws.specs.Answer.{Answer, Answer.given}
+use Rattle.laws.specs.Answer.{Answer.given}
 use Rattle.laws.proofs.Answers.{Holds, holds-refuse, holds-choose, holds-then, holds-given, holds-mono}
 use Rattle.packet_head.specs.Header.{Control}
-use Rattle.packet_head.specs.Block.{BlockRead, hasMac, scbOf}
+use Rattle.packet_head.specs.Block.{hasMac}
 use Rattle.packet_head.specs.Trailer.{Tail, macLen, trailerLen}
 use Rattle.packet_parse.specs.Frame.{Fields, BlockAt, BlockAt.noBlock, BlockAt.blockAt, MacAt, MacAt.noMac, MacAt.macFrom, macAt, fieldsOf, partsOf, frameOf, parseOf}
 

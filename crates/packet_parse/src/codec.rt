@@ -2,7 +2,6 @@
 ghost use mathlib.Core.Path.{_≡_};
 ghost use mathlib.Core.List.{[], _∷_};
 ghost use Prim.Native.Nat.{_≤_};
-ghost use lib.ListN.{length};
 ghost use Rattle.laws.specs.Answer.{Answer.refused};
 ghost use Rattle.packet_head.specs.Header.{control};
 ghost use Rattle.packet_head.specs.Trailer.{macLen, trailerLen};

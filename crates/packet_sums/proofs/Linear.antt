@@ -8,7 +8,7 @@ use native.Mathlib.Decide.{decLt}
 use native.Mathlib.Omega.{arith}
 use lib.Arith.{lt-one}
 use lib.Pow.{pow-pos}
-use lib.Bits.{bitXor, xor-self, xor-comm, xor-zero-r, xor-shr, xor-mod, xor-block, xor-shifted}
+use lib.Bits.{bitXor, xor-self, xor-shr, xor-mod, xor-block, xor-shifted}
 use lib.Dec.{T, eqb, eqb→eq}
 use lib.ListN.{getD}
 use Rattle.laws.specs.Table.{from}

@@ -1,8 +1,8 @@
 -- The steps that the code takes, with no table, are the definition's: both sides are linear, and equal at each power of two.
 -- Assumes nothing.
-use mathlib.Core.Path.{_≡_, refl, sym, ap, ap₂, _∙_}
-use mathlib.Core.List.{List, [], _∷_}
-use Prim.Native.Nat.{ℕ, zero, suc, _+_, _-_, _*_, _/_, _%_, _^_, _<_, _≤_}
+use mathlib.Core.Path.{_≡_, sym, ap, ap₂, _∙_}
+use mathlib.Core.List.{List, _∷_}
+use Prim.Native.Nat.{ℕ, suc, _+_, _-_, _*_, _/_, _%_, _^_, _<_, _≤_}
 use native.Mathlib.Nat.{zero-add}
 use native.Mathlib.Omega.{arith}
 use lib.Bits.{bitXor, xor-shr, xor-mod}
@@ -14,7 +14,7 @@ use Rattle.packet_sums.specs.Crc.{reduce, crcBit, crcBits, crcByte, crcF
 use Rattle.packet_sums.specs.Word.{wordFrom, bytesOf, crcWord}
 use Rattle.packet_sums.proofs.Linear.{Linear, linear-same, linear-after, linear-shr, linear-mod, linear-shl, linear-xor, agree-tried}
 use Rattle.packet_sums.proofs.CrcLaws.{byte-linear, crc-cons, crc-split}
-use Rattle.packet_sums.proofs.WordLaws.{word-lead, crc-word-zero, crc-word-linear, crc-word-from, crc-word-two}
+use Rattle.packet_sums.proofs.WordLaws.{crc-word-zero, crc-word-linear, crc-word-from, crc-word-two}
 
 -- ---- one byte
 

@@ -4,7 +4,6 @@ use mathlib.Core.Path.{_≡_, refl, sym, ap, ap₂, _∙_, subst}
 use mathlib.Core.List.{List, [], _∷_, _++_}
 use Prim.Native.Nat.{ℕ, zero, suc, _+_, _*_, _/_, _%_, _^_, _<_, _≤_}
 use native.Mathlib.Nat.{add-zero, zero-add, add-suc, suc-add, one-mul, mul-assoc, mul-comm, add-mul, add-assoc, pow-suc}
-use native.Mathlib.Numerals.{add-one}
 use native.Mathlib.Omega.{arith}
 use lib.Bits.{bitXor, xor-shr, xor-mod}
 use lib.Dec.{lit<}
@@ -13,7 +12,7 @@ use lib.Seq.{length-take-le, take-add, drop-drop}
 use Rattle.laws.specs.Bytes.{Bytes}
 use Rattle.laws.proofs.ByteLists.{bytes-take, bytes-drop}
 use Rattle.laws.proofs.Lists.{drop-next}
-use Rattle.packet_sums.specs.Crc.{reduce, crcBit, crcBits, crcByte, crcFrom}
+use Rattle.packet_sums.specs.Crc.{crcByte, crcFrom}
 use Rattle.packet_sums.specs.Word.{wordFrom, bytesOf, crcWord}
 use Rattle.packet_sums.proofs.Linear.{Linear, linear-zero}
 use Rattle.packet_sums.proofs.CrcLaws.{crc-nil, crc-cons, crc-append, byte-linear}

@@ -2,7 +2,7 @@
 // bytes at once.
 ghost use mathlib.Core.Path.{_≡_};
 ghost use Prim.Native.Nat.{_+_, _/_, _*_, _%_, _≤_};
-ghost use lib.ListN.{length, take, drop};
+ghost use lib.ListN.{take, drop};
 ghost use Rattle.packet_sums.specs.Crc.{crcByte, crcOf, lowFirst};
 ghost use Rattle.packet_sums.specs.Word.{wordFrom, crcWord};
 

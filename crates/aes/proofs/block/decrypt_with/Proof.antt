@@ -1,8 +1,7 @@
 -- `aes::block::decrypt_with` meets its contract: with r rounds to go, those take s to what all nine take the first state to.
 -- Assumes nothing.
 use mathlib.Core.Path.{_≡_, refl}
-use mathlib.Core.List.{List}
-use Prim.Native.Nat.{ℕ, _≤_, _-_, _+_}
+use Prim.Native.Nat.{_≤_, _-_}
 use native.Mathlib.Omega.{arith}
 use borrow.Author.Needs.{needs}
 use Rattle.aes.specs.Cipher.{invRounds, invCipher}

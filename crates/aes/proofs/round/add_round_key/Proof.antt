@@ -1,9 +1,8 @@
 -- `aes::round::add_round_key` meets its contract: the loop fills the block.
 -- Assumes nothing.
-use Prim.Native.Nat.{ℕ, _≤_, _-_, _+_, _*_}
+use Prim.Native.Nat.{_≤_, _-_, _+_}
 use mathlib.Core.Path.{refl}
 use native.Mathlib.Omega.{arith}
-use borrow.Author.Needs.{needs}
 use lib.ListN.{getD}
 use Rattle.laws.proofs.Fill.{Filled, fill-none, fill-more, fill-all}
 use Rattle.aes_field.specs.Field.{_⊕_}

@@ -3,7 +3,7 @@
 use mathlib.Core.Path.{ap, _∙_}
 use Prim.Native.Nat.{ℕ}
 use borrow.Author.Needs.{needs}
-use Rattle.aes_field.specs.Field.{_⊕_, xtime}
+use Rattle.aes_field.specs.Field.{_⊕_}
 use Rattle.aes_field.proofs.Linear.{mixed}
 use Rattle.aes_field.proofs.field.mix.Statement.{statement}
 use Rattle.aes_field.proofs.field.mix.Tie as tie

@@ -1,6 +1,5 @@
 -- `crc::crc_byte` meets its contract: what it works out by shifts is the step bit by bit.
 -- Assumes nothing.
-use borrow.Author.Needs.{needs}
 use native.Mathlib.Omega.{arith}
 use Rattle.packet_sums.proofs.Step.{shift-byte}
 use Rattle.packet_sums.proofs.crc.crc_byte.Statement.{statement}

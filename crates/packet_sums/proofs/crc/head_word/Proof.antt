@@ -5,7 +5,7 @@ use mathlib.Core.List.{List}
 use Prim.Native.Nat.{ℕ, _+_, _*_, _/_, _%_, _≤_}
 use borrow.Author.Needs.{needs}
 use native.Mathlib.Omega.{arith}
-use lib.ListN.{length, take, drop}
+use lib.ListN.{length, take}
 use Rattle.laws.specs.Bytes.{Bytes}
 use Rattle.packet_sums.specs.Word.{wordFrom}
 use Rattle.packet_sums.proofs.WordLaws.{word-nil, read-lt, part-lead, part-join}

@@ -1,0 +1,3 @@
+pub mod Built
+pub mod Rebuilt
+pub mod ReadBack

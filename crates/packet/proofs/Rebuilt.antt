@@ -1,0 +1,325 @@
+-- What was read can be built again: the parts of a frame that is accepted make the same bytes.
+-- Assumes nothing.
+use mathlib.Core.Path.{_≡_, refl, sym, ap, ap₂, _∙_}
+use mathlib.Core.List.{List, [], _∷_, _++_, append-assoc, append-nil}
+use mathlib.Core.Bool.{Bool, true, false, not, cond}
+use Prim.Native.Nat.{ℕ, _-_, suc, _+_, _*_, _/_, _%_, _≤_, _<_}
+use native.Mathlib.Numerals.{add-one}
+use native.Mathlib.Omega.{arith}
+use borrow.Author.Tests.{le-ltb, eq-eqb, ltb-false, leb-false, eqb-true, eqb-false, not-false}
+use lib.Dec.{leb, eqb}
+use lib.ListN.{length, getD, take, drop, length-drop, take-append-drop, drop-of-length-le}
+use lib.Seq.{length-take-le, take-suc, take-add, drop-cons, getD-drop, getD-take}
+use Rattle.packet_sums.specs.Checksum.{checksumOf}
+use Rattle.packet_sums.specs.Crc.{crcOf}
+use Rattle.laws.specs.Answer.{Answer.given, refuseIf, andThen}
+use Rattle.packet_head.specs.Header.{Control, controlOf, ctrlByte}
+use Rattle.packet_head.specs.Block.{hasMac, scsOf, scbOf}
+use Rattle.packet_head.specs.Trailer.{Tail, Tail.checksum, Tail.crc, trailerLen, macLen}
+use Rattle.laws.specs.Bytes.{Bytes}
+use Rattle.laws.proofs.ByteLists.{bytes-take}
+use Rattle.laws.proofs.Answers.{Holds, holds-refuse, holds-choose, holds-then, holds-mono, holds-given}
+use Rattle.packet_parse.specs.Trailer.{crcGot, sumGot, trailerOf}
+use Rattle.packet_parse.specs.Frame.{Head, Fields, BlockAt, BlockAt.noBlock, BlockAt.blockAt, MacAt, MacAt.noMac, MacAt.macFrom, macAt, lenOf, headOf, fieldsOf, partsOf, frameOf, parseOf}
+use Rattle.packet_build.specs.Build as made
+use Rattle.packet_build.specs.Build.{Parts, Block, Block.scb, blockBytes, headBytes, tailBytes, bytesOf, signedBytes, bodyBytes, buildOf, testOf, differ, totalN}
+use Rattle.packet_build.proofs.Sizes.{Fine, bytesN-is}
+
+-- ---- the control byte
+
+control-there : (b : ℕ) → Holds (λ c. (ctrlByte c ≡ b) × (c .0 ≤ 3)) (controlOf b)
+unfolding controlOf refuseIf
+control-there b = go (leb 16 b) refl
+  where
+    sum : b < 16 → (t u : Bool) → eqb (b / 4 % 2) 1 ≡ t → eqb (b / 8) 1 ≡ u → b % 4 + cond t 4 0 + cond u 8 0 ≡ b
+    sum h true true e f = omega (arith, eqb-true (b / 4 % 2) 1 e, eqb-true (b / 8) 1 f)
+    sum h true false e f = omega (arith, eqb-true (b / 4 % 2) 1 e, eqb-false (b / 8) 1 f)
+    sum h false true e f = omega (arith, eqb-false (b / 4 % 2) 1 e, eqb-true (b / 8) 1 f)
+    sum h false false e f = omega (arith, eqb-false (b / 4 % 2) 1 e, eqb-false (b / 8) 1 f)
+
+    go : (t : Bool) → leb 16 b ≡ t → Holds (λ c. (ctrlByte c ≡ b) × (c .0 ≤ 3)) (controlOf b)
+    go true e = rw e tt
+    go false e = rw e (sum (leb-false 16 b e) (eqb (b / 4 % 2) 1) (eqb (b / 8) 1) refl refl, omega arith)
+
+-- ---- the trailer
+
+last-one : (f : List ℕ) → 1 ≤ length f → drop (length f - 1) f ≡ getD f (length f - 1) 0 ∷ []
+last-one f h =
+    drop-cons f (length f - 1) 0 (omega arith) ∙ ap (λ (r : List ℕ). getD f (length f - 1) 0 ∷ r) (drop-of-length-le f {i = suc (length f - 1)} (omega arith))
+
+last-two : (f : List ℕ) → 2 ≤ length f → drop (length f - 2) f ≡ getD f (length f - 2) 0 ∷ getD f (length f - 1) 0 ∷ []
+last-two f h =
+    let e : suc (length f - 2) ≡ length f - 1 = omega arith in
+    drop-cons f (length f - 2) 0 (omega arith) ∙ ap (λ (n : ℕ). getD f (length f - 2) 0 ∷ drop n f) e ∙ ap (λ (r : List ℕ). getD f (length f - 2) 0 ∷ r) (last-one f (omega arith))
+
+trailer-there : (f : List ℕ) (t : Bool) → Bytes f → 2 ≤ length f → Holds (λ x. tailBytes t (take (length f - trailerLen t) f) ≡ drop (length f - trailerLen t) f) (trailerOf f t)
+unfolding trailerOf refuseIf
+trailer-there f true b h = go (eqb (crcGot f) w) refl
+  where
+    w : ℕ
+    w = crcOf (take (length f - 2) f)
+
+    P : Tail → Type 0
+    P x = tailBytes true (take (length f - 2) f) ≡ drop (length f - 2) f
+
+    go : (t : Bool) → eqb (crcGot f) w ≡ t → Holds P (refuseIf (not (eqb (crcGot f) w)) 7 (crcGot f ∷ w ∷ []) (given (crc (crcGot f))))
+    go true e = rw e
+        (let q : crcGot f ≡ w = eqb-true _ _ e in
+        let lo : w % 256 ≡ getD f (length f - 2) 0 = omega (arith, b (length f - 2), b (length f - 1)) in
+        let hi : w / 256 ≡ getD f (length f - 1) 0 = omega (arith, b (length f - 2), b (length f - 1)) in
+        ap₂ (λ (x y : ℕ). x ∷ y ∷ []) lo hi ∙ sym (last-two f h))
+    go false e = rw e tt
+trailer-there f false b h = go (eqb (sumGot f) w) refl
+  where
+    w : ℕ
+    w = checksumOf (take (length f - 1) f)
+
+    P : Tail → Type 0
+    P x = tailBytes false (take (length f - 1) f) ≡ drop (length f - 1) f
+
+    go : (t : Bool) → eqb (sumGot f) w ≡ t → Holds P (refuseIf (not (eqb (sumGot f) w)) 8 (sumGot f ∷ w ∷ []) (given (checksum (sumGot f))))
+    go true e = rw e (ap (λ (x : ℕ). x ∷ []) (sym (eqb-true _ _ e)) ∙ sym (last-one f (omega arith)))
+    go false e = rw e tt
+
+-- ---- the bytes
+
+-- the first five
+five : (f : List ℕ) → 5 ≤ length f → take 5 f ≡ getD f 0 0 ∷ getD f 1 0 ∷ getD f 2 0 ∷ getD f 3 0 ∷ getD f 4 0 ∷ []
+five [] h = absurd (omega arith)
+five (a ∷ []) h = absurd (omega arith)
+five (a ∷ b ∷ []) h = absurd (omega arith)
+five (a ∷ b ∷ c ∷ []) h = absurd (omega arith)
+five (a ∷ b ∷ c ∷ d ∷ []) h = absurd (omega arith)
+five (a ∷ b ∷ c ∷ d ∷ e ∷ f) h = refl
+
+-- two more, as they stand after five
+pair : (g : List ℕ) → 2 ≤ length g → take 2 g ≡ getD g 0 0 ∷ getD g 1 0 ∷ []
+pair [] h = absurd (omega arith)
+pair (a ∷ []) h = absurd (omega arith)
+pair (a ∷ b ∷ g) h = refl
+
+-- the parts that stand at the places of F in f
+abbrev pub blockFrom : BlockAt → List ℕ → Block
+blockFrom noBlock f = Block.noBlock
+blockFrom (blockAt ty start n) f = scb ty (take n (drop start f))
+
+abbrev pub macBytesFrom : MacAt → List ℕ → List ℕ
+macBytesFrom noMac f = []
+macBytesFrom (macFrom at) f = take 4 (drop at f)
+
+abbrev pub partsFrom : List ℕ → Fields → Parts
+partsFrom f F =
+    record {
+      addr = F .addr;
+      ctrl = F .ctrl;
+      block = blockFrom (F .block) f;
+      code = F .code;
+      «data» = take (F .dataLen) (drop (F .dataStart) f);
+      mac = macBytesFrom (F .mac) f;
+    }
+
+-- the header of f
+record Headed (f : List ℕ) (a : ℕ) (c : Control) : Type 0 where
+  som : getD f 0 0 ≡ 0x53
+  addr : getD f 1 0 ≡ a
+  len : getD f 2 0 + 256 * getD f 3 0 ≡ length f
+  ctrl : ctrlByte c ≡ getD f 4 0
+  sqn : c .0 ≤ 3
+  enough : 5 ≤ length f
+  bytes : Bytes f
+
+head-there : (f : List ℕ) (a : ℕ) (c : Control) → Headed f a c → headBytes a c (length f) ≡ take 5 f
+head-there f a c h =
+    let lo : length f % 256 ≡ getD f 2 0 = omega (arith, h .len, h .bytes 2) in
+    let hi : length f / 256 ≡ getD f 3 0 = omega (arith, h .len, h .bytes 2) in
+    rw (← h .som, ← h .addr, lo, hi, h .ctrl) (sym (five f (h .enough)))
+
+-- ---- from the code on
+
+record Placed (f : List ℕ) (a : ℕ) (c : Control) (k : BlockAt) (at : ℕ) (mac : Bool) : Type 0 where
+  front : headBytes a c (length f) ++ blockBytes (blockFrom k f) ≡ take at f
+  size : 5 + length (blockBytes (blockFrom k f)) ≡ at
+  flag : made.present (blockFrom k f) ≡ c .2
+  due : made.due (blockFrom k f) ≡ mac
+  small : made.blockN (blockFrom k f) ≤ 253
+
+-- the data's length, and where it ends
+abbrev dataN : List ℕ → ℕ → Bool → Bool → ℕ
+dataN f at mac t = length f - (at + 1 + macLen mac + trailerLen t)
+
+mac-there : (f : List ℕ) (at : ℕ) (mac t : Bool) → at + 1 + macLen mac + trailerLen t ≤ length f
+    → take (at + 1 + dataN f at mac t) f ++ macBytesFrom (macAt mac (length f - (macLen mac + trailerLen t))) f ≡ take (length f - trailerLen t) f
+mac-there f at true t h =
+    let e : length f - (4 + trailerLen t) ≡ at + 1 + dataN f at true t = omega arith in
+    let d : at + 1 + dataN f at true t + 4 ≡ length f - trailerLen t = omega arith in
+    ap (λ (n : ℕ). take (at + 1 + dataN f at true t) f ++ take 4 (drop n f)) e ∙ sym (take-add (at + 1 + dataN f at true t) 4 f) ∙ ap (λ (n : ℕ). take n f) d
+mac-there f at false t h =
+    let d : at + 1 + dataN f at false t ≡ length f - trailerLen t = omega arith in
+    append-nil _ ∙ ap (λ (n : ℕ). take n f) d
+
+mac-size : (f : List ℕ) (at : ℕ) (mac t : Bool) → at + 1 + macLen mac + trailerLen t ≤ length f
+    → length (macBytesFrom (macAt mac (length f - (macLen mac + trailerLen t))) f) ≡ macLen mac
+mac-size f at true t h = length-take-le 4 (drop (length f - (4 + trailerLen t)) f) (simp length-drop (omega arith))
+mac-size f at false t h = refl
+
+signed-there : (f : List ℕ) (a : ℕ) (c : Control) (k : BlockAt) (at : ℕ) (mac : Bool) (x : Tail) → Placed f a c k at mac → at + 1 + macLen mac + trailerLen (c .1) ≤ length f
+    → signedBytes (partsFrom f (fieldsOf f a c k at mac x)) (length f) ≡ take (length f - trailerLen (c .1)) f
+unfolding bodyBytes
+signed-there f a c k at mac x p h =
+    let n = dataN f at mac (c .1) in
+    let m = macBytesFrom (macAt mac (length f - (macLen mac + trailerLen (c .1)))) f in
+    ap (λ (z : List ℕ). z ++ (getD f at 0 ∷ []) ++ take n (drop (at + 1) f) ++ m) (p .front)
+    ∙ ap (λ (z : List ℕ). z ++ take n (drop (at + 1) f) ++ m) (sym (take-suc f at 0 (omega arith)) ∙ ap (λ (j : ℕ). take j f) (sym (add-one at)))
+    ∙ ap (λ (z : List ℕ). z ++ m) (sym (take-add (at + 1) n f)) ∙ mac-there f at mac (c .1) h
+
+-- the tests pass where their facts hold
+same-off : (a b : Bool) → a ≡ b → differ a b ≡ false
+same-off true b e = rw (← e)
+same-off false b e = rw (← e)
+
+passes : (c : Control) (there d : Bool) (mac block dat have n : ℕ) → Fine c there d mac block dat have n → testOf c there d mac block dat have ≡ given n
+unfolding testOf refuseIf
+passes c there d mac block dat have n f =
+    let h₅ : totalN (c .1) there mac block dat ≤ 65535 = omega (arith, f .total, f .most) in
+    let h₆ : totalN (c .1) there mac block dat ≤ have = omega (arith, f .total, f .room) in
+    rw (le-ltb _ _ (f .sqn), same-off _ _ (f .flag), eq-eqb _ _ (f .macs), le-ltb _ _ (f .small), le-ltb _ _ h₅, le-ltb _ _ h₆) (ap given (sym (f .total)))
+
+-- F's parts make f again
+abbrev Again : List ℕ → Fields → Type 0
+Again f F = (F .len ≡ length f) × ((have : ℕ) → length f ≤ have → buildOf (partsFrom f F) have ≡ given f)
+
+again : (f : List ℕ) (a : ℕ) (c : Control) (k : BlockAt) (at : ℕ) (mac : Bool) (x : Tail) → Headed f a c → Placed f a c k at mac → at + 1 + macLen mac + trailerLen (c .1) ≤ length f
+    → tailBytes (c .1) (take (length f - trailerLen (c .1)) f) ≡ drop (length f - trailerLen (c .1)) f
+    → (have : ℕ) → length f ≤ have → buildOf (partsFrom f (fieldsOf f a c k at mac x)) have ≡ given f
+unfolding buildOf andThen bytesOf
+again f a c k at mac x h p l t have room =
+    let b = blockFrom k f in
+    let n = dataN f at mac (c .1) in
+    let m = macBytesFrom (macAt mac (length f - (macLen mac + trailerLen (c .1)))) f in
+    let ld : length (take n (drop (at + 1) f)) ≡ n = length-take-le n (drop (at + 1) f) (simp length-drop (omega arith)) in
+    let lm : length m ≡ macLen mac = mac-size f at mac (c .1) l in
+    let most : length f ≤ 65535 = omega (arith, h .len, h .bytes 2, h .bytes 3) in
+    let total : length f ≡ totalN (c .1) (made.present b) (length m) (made.blockN b) (length (take n (drop (at + 1) f))) = omega (arith, bytesN-is b, p .size) in
+    let e = passes c (made.present b) (made.due b) (length m) (made.blockN b) (length (take n (drop (at + 1) f))) have (length f)
+    (record { sqn = h .sqn; flag = p .flag; macs = lm ∙ ap macLen (sym (p .due)); total = total; most = most; room = room; small = p .small }) in
+    let s = signed-there f a c k at mac x p l in
+    rw e (ap given (ap (λ (z : List ℕ). z ++ tailBytes (c .1) z) s ∙ ap (λ (z : List ℕ). take (length f - trailerLen (c .1)) f ++ z) t ∙ take-append-drop (length f - trailerLen (c .1)) f))
+
+one-two : (t : Bool) → (1 ≤ trailerLen t) × (trailerLen t ≤ 2)
+one-two true = omega arith
+one-two false = omega arith
+
+parts-there : (f : List ℕ) (a : ℕ) (c : Control) (k : BlockAt) (at : ℕ) (mac : Bool) → Headed f a c → Placed f a c k at mac → Holds (Again f) (partsOf f a c k at mac)
+unfolding partsOf
+parts-there f a c k at mac h p =
+    holds-refuse _ _ _ _ _ (λ _. holds-refuse _ _ _ _ _ (λ l. holds-then _ _ _ (λ x e. (
+      refl,
+      again f a c k at mac x h p (ltb-false _ _ l)
+          (holds-given (λ y. tailBytes (c .1) (take (length f - trailerLen (c .1)) f) ≡ drop (length f - trailerLen (c .1)) f) (trailerOf f (c .1)) x (trailer-there f (c .1) (h .bytes) (omega (arith, h .enough))) e),
+    ))))
+
+-- ---- the block
+
+type-there : (b : ℕ) → Holds (λ ty. ty ≡ b) (scsOf b)
+unfolding scsOf refuseIf
+type-there b = go (leb 0x11 b) (leb b 0x18) refl refl
+  where
+    go : (t u : Bool) → leb 0x11 b ≡ t → leb b 0x18 ≡ u → Holds (λ ty. ty ≡ b) (scsOf b)
+    go true true e f = rw (e, f) refl
+    go true false e f = rw (e, f) tt
+    go false u e f = rw e tt
+
+record Blocked (g : List ℕ) (b : ℕ × ℕ) : Type 0 where
+  type : b .0 ≡ getD g 1 0
+  size : b .1 + 2 ≡ getD g 0 0
+  inside : getD g 0 0 ≤ length g
+  two : 2 ≤ length g
+
+block-there : (g : List ℕ) → Holds (Blocked g) (scbOf g)
+unfolding scbOf
+block-there g =
+    holds-refuse _ _ _ _ _ (λ h. holds-refuse _ _ _ _ _ (λ k. holds-refuse _ _ _ _ _ (λ l. holds-then _ _ _ (λ ty e.
+    let q : 2 ≤ getD g 0 0 = ltb-false _ _ k in
+    record { type = holds-given (λ y. y ≡ getD g 1 0) (scsOf (getD g 1 0)) ty (type-there (getD g 1 0)) e; size = omega arith; inside = ltb-false _ _ l; two = ltb-false _ _ h }))))
+
+placed-none : (f : List ℕ) (a : ℕ) (c : Control) → Headed f a c → c .2 ≡ false → Placed f a c noBlock 5 false
+placed-none f a c h e = record { front = append-nil _ ∙ head-there f a c h; size = refl; flag = sym e; due = refl; small = omega arith }
+
+placed-block : (f : List ℕ) (a : ℕ) (c : Control) (b : ℕ × ℕ) → Headed f a c → c .2 ≡ true → Blocked (drop 5 f) b → Placed f a c (blockAt (b .0) 7 (b .1)) (7 + b .1) (hasMac (b .0))
+placed-block f a c b h e k =
+    let l = length-drop 5 f in
+    let n : length (take (b .1) (drop 7 f)) ≡ b .1 = length-take-le (b .1) (drop 7 f) (simp length-drop (omega (arith, k .size, k .inside))) in
+    let byte : getD (drop 5 f) 0 0 < 256 = rw getD-drop (h .bytes (5 + 0)) in
+    let z : length (take (b .1) (drop 7 f)) + 2 ≡ getD (drop 5 f) 0 0 = omega (arith, k .size) in
+    record {
+      front =
+          ap₂ (λ (x y : List ℕ). x ++ y) (head-there f a c h)
+          (ap₂ (λ (x y : ℕ). x ∷ y ∷ take (b .1) (drop 7 f)) z (k .type)
+          ∙ ap (λ (y : List ℕ). y ++ take (b .1) (drop 7 f)) (sym (pair (drop 5 f) (k .two))))
+          ∙ sym (append-assoc (take 5 f) (take 2 (drop 5 f)) (take (b .1) (drop 7 f)))
+          ∙ ap (λ (y : List ℕ). y ++ take (b .1) (drop 7 f)) (sym (take-add 5 2 f)) ∙ sym (take-add 7 (b .1) f);
+      size = omega arith;
+      flag = sym e;
+      due = refl;
+      small = omega (arith, k .size);
+    }
+
+frame-there : (f : List ℕ) (a : ℕ) (c : Control) → (6 ≤ length f → Headed f a c) → Holds (Again f) (frameOf f a c)
+unfolding frameOf
+frame-there f a c hd =
+    holds-refuse _ _ _ _ _ (λ l.
+    let q : 6 + trailerLen (c .1) ≤ length f = ltb-false _ _ l in
+    let h = hd (omega arith) in
+    holds-choose _ _ _ _
+    (λ e. holds-then _ _ _ (λ b g. parts-there f a c (blockAt (b .0) 7 (b .1)) (7 + b .1) (hasMac (b .0)) h (placed-block f a c b h e (holds-given (Blocked (drop 5 f)) (scbOf (drop 5 f)) b (block-there (drop 5 f)) g))))
+    (λ e. parts-there f a c noBlock 5 false h (placed-none f a c h e)))
+
+-- ---- the first LEN bytes
+
+-- what the five bytes that were read say of them
+record Said (s : List ℕ) (h : Head) : Type 0 where
+  som : getD s 0 0 ≡ 0x53
+  addr : getD s 1 0 ≡ h .addr
+  len : lenOf s ≡ h .len
+  ctrl : ctrlByte (h .ctrl) ≡ getD s 4 0
+  sqn : h .ctrl .0 ≤ 3
+
+head-said : (s : List ℕ) → Holds (Said s) (headOf s)
+unfolding headOf
+head-said s =
+    holds-refuse _ _ _ _ _ (λ _. holds-refuse _ _ _ _ _ (λ m. holds-then _ _ _ (λ c e.
+    let g = holds-given (λ c. (ctrlByte c ≡ getD s 4 0) × (c .0 ≤ 3)) (controlOf (getD s 4 0)) c (control-there (getD s 4 0)) e in
+    record { som = eqb-true _ _ (not-false _ m); addr = refl; len = refl; ctrl = g .0; sqn = g .1 })))
+
+headed : (s : List ℕ) (h : Head) → Bytes s → headOf s ≡ given h → h .len ≤ length s → 6 ≤ length (take (h .len) s) → Headed (take (h .len) s) (h .addr) (h .ctrl)
+headed s h b e l k =
+    let n = h .len in
+    let ln : length (take n s) ≡ n = length-take-le n s l in
+    let g = holds-given (Said s) (headOf s) h (head-said s) e in
+    record {
+      som = getD-take n s 0 0 (omega arith) ∙ g .som;
+      addr = getD-take n s 1 0 (omega arith) ∙ g .addr;
+      len = ap₂ (λ (x y : ℕ). x + 256 * y) (getD-take n s 2 0 (omega arith)) (getD-take n s 3 0 (omega arith)) ∙ g .len ∙ sym ln;
+      ctrl = g .ctrl ∙ sym (getD-take n s 4 0 (omega arith));
+      sqn = g .sqn;
+      enough = omega arith;
+      bytes = bytes-take n s b;
+    }
+
+-- The parts of a frame that is accepted make the first LEN bytes again, in any buffer that has the room.
+abbrev pub Rebuilt : List ℕ → Fields → Type 0
+Rebuilt s F = (have : ℕ) → F .len ≤ have → buildOf (partsFrom (take (F .len) s) F) have ≡ given (take (F .len) s)
+
+all : (s : List ℕ) → Bytes s → Holds (Rebuilt s) (parseOf s)
+unfolding parseOf
+all s b =
+    holds-then _ _ _ (λ h e. holds-refuse _ _ _ _ _ (λ l.
+    let n = h .len in
+    let ln : length (take n s) ≡ n = length-take-le n s (ltb-false _ _ l) in
+    holds-mono (Again (take n s)) (Rebuilt s) (frameOf (take n s) (h .addr) (h .ctrl))
+    (λ F g have room. let k : F .len ≡ n = g .0 ∙ ln in rw k (g .1 have (omega arith)))
+    (frame-there (take n s) (h .addr) (h .ctrl) (headed s h b e (ltb-false _ _ l)))))
+
+pub accepted-rebuilds : (s : List ℕ) (F : Fields) → Bytes s → parseOf s ≡ given F
+    → (have : ℕ) → F .len ≤ have → buildOf (partsFrom (take (F .len) s) F) have ≡ given (take (F .len) s)
+accepted-rebuilds s F b e = holds-given (Rebuilt s) (parseOf s) F (all s b) e

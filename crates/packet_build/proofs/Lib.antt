@@ -1,0 +1,5 @@
+pub mod Tests
+pub mod Sizes
+pub mod Frames
+pub mod TwoCalls
+pub mod Settled

@@ -1,0 +1,110 @@
+-- What the tests leave of a frame that was built, and how long its parts are.
+-- Assumes nothing.
+use mathlib.Core.Path.{_≡_, refl, sym, _∙_}
+use mathlib.Core.Bool.{Bool, true, false, cond}
+use mathlib.Core.List.{List}
+use Prim.Native.Nat.{ℕ, _+_, _≤_}
+use native.Mathlib.Omega.{arith}
+use borrow.Author.Tests.{ltb-false, eqb-true, not-false}
+use lib.ListN.{length, length-append}
+use Rattle.laws.specs.Answer.{Answer.given}
+use Rattle.laws.proofs.Answers.{Holds, holds-refuse, holds-then, holds-given}
+use Rattle.packet_head.specs.Header.{Control}
+use Rattle.packet_head.specs.Trailer.{trailerLen, macLen}
+use Rattle.packet_build.specs.Build.{Block, Block.noBlock, Block.scb, Parts, present, due, blockN, blockBytes, bodyBytes, signedBytes, tailBytes, bytesOf, differ, testOf, totalN, buildOf, bodyOf}
+use Rattle.packet_build.specs.Tested.{partsTest}
+
+-- ---- lengths
+
+pub bytesN-is : (b : Block) → length (blockBytes b) ≡ cond (present b) 2 0 + blockN b
+bytesN-is noBlock = refl
+bytesN-is (scb ty l) = omega arith
+
+pub tail-length : (t : Bool) (l : List ℕ) → length (tailBytes t l) ≡ trailerLen t
+tail-length true l = refl
+tail-length false l = refl
+
+pub body-length : (a : ℕ) (c : Control) (b : Block) (k : ℕ) (d : List ℕ) (n : ℕ) → length (bodyBytes a c b k d n) ≡ 6 + length (blockBytes b) + length d
+unfolding bodyBytes
+body-length a c b k d n = simp length-append (omega arith)
+
+pub signed-length : (p : Parts) (n : ℕ) → length (signedBytes p n) ≡ 6 + length (blockBytes (p .block)) + length (p .«data») + length (p .mac)
+signed-length p n =
+    let body = bodyBytes (p .addr) (p .ctrl) (p .block) (p .code) (p .«data») n in
+    omega (arith, length-append body (p .mac), body-length (p .addr) (p .ctrl) (p .block) (p .code) (p .«data») n)
+
+pub bytes-length : (p : Parts) (n : ℕ) → length (bytesOf p n) ≡ 6 + length (blockBytes (p .block)) + length (p .«data») + length (p .mac) + trailerLen (p .ctrl .1)
+unfolding bytesOf
+bytes-length p n =
+    length-append (signedBytes p n) (tailBytes (p .ctrl .1) (signedBytes p n))
+    ∙ omega (arith, signed-length p n, tail-length (p .ctrl .1) (signedBytes p n))
+
+-- ---- what holds once every test has passed
+
+same : (a b : Bool) → differ a b ≡ false → a ≡ b
+same true true e = refl
+same true false e = e
+same false true e = sym e
+same false false e = refl
+
+pub record Fine (c : Control) (there d : Bool) (mac block dat have n : ℕ) : Type 0 where
+  pub sqn : c .0 ≤ 3
+  pub flag : there ≡ c .2
+  pub macs : mac ≡ macLen d
+  pub total : n ≡ totalN (c .1) there mac block dat
+  pub most : n ≤ 65535
+  pub room : n ≤ have
+  pub small : block ≤ 253
+
+pub fine : (c : Control) (there d : Bool) (mac block dat have : ℕ) → Holds (Fine c there d mac block dat have) (testOf c there d mac block dat have)
+unfolding testOf
+fine c there d mac block dat have =
+    holds-refuse _ _ _ _ _ (λ q. holds-refuse _ _ _ _ _ (λ t. holds-refuse _ _ _ _ _ (λ e.
+    holds-refuse _ _ _ _ _ (λ s. holds-refuse _ _ _ _ _ (λ m. holds-refuse _ _ _ _ _ (λ r.
+    record {
+      sqn = ltb-false _ _ q;
+      flag = same there (c .2) t;
+      macs = eqb-true _ _ (not-false _ e);
+      total = refl;
+      most = ltb-false _ _ m;
+      room = ltb-false _ _ r;
+      small = ltb-false _ _ s;
+    }))))))
+
+-- the same of parts that are to have `mac` bytes of MAC
+abbrev pub FineParts : Parts → ℕ → ℕ → ℕ → Type 0
+FineParts p mac have n = Fine (p .ctrl) (present (p .block)) (due (p .block)) mac (blockN (p .block)) (length (p .«data»)) have n
+
+pub fine-parts : (p : Parts) (mac have n : ℕ) → partsTest (p .ctrl) (p .block) mac (length (p .«data»)) have ≡ given n → FineParts p mac have n
+fine-parts p mac have n e =
+    holds-given (FineParts p mac have) (partsTest (p .ctrl) (p .block) mac (length (p .«data»)) have) n
+    (fine (p .ctrl) (present (p .block)) (due (p .block)) mac (blockN (p .block)) (length (p .«data»)) have) e
+
+-- of a frame that was built
+pub record Whole (p : Parts) (have : ℕ) (b : List ℕ) : Type 0 where
+  pub n : ℕ
+  pub bytes : b ≡ bytesOf p n
+  pub tests : FineParts p (length (p .mac)) have n
+
+pub whole : (p : Parts) (have : ℕ) → Holds (Whole p have) (buildOf p have)
+unfolding buildOf
+whole p have = holds-then _ _ _ (λ n e. record { n = n; bytes = refl; tests = fine-parts p (length (p .mac)) have n e })
+
+-- LEN counts all
+pub whole-length : (p : Parts) (have n : ℕ) → FineParts p (length (p .mac)) have n → length (bytesOf p n) ≡ n
+whole-length p have n f = omega (arith, f .total, bytes-length p n, bytesN-is (p .block))
+
+-- of what the first of two calls wrote
+pub record Body (p : Parts) (have : ℕ) (b : List ℕ) : Type 0 where
+  pub n : ℕ
+  pub bytes : b ≡ bodyBytes (p .addr) (p .ctrl) (p .block) (p .code) (p .«data») n
+  pub tests : FineParts p 4 have n
+
+pub body : (p : Parts) (have : ℕ) → Holds (Body p have) (bodyOf p have)
+unfolding bodyOf
+body p have = holds-then _ _ _ (λ n e. record { n = n; bytes = refl; tests = fine-parts p 4 have n e })
+
+-- four bytes of MAC and the trailer are still to come
+pub body-left : (p : Parts) (have n : ℕ) → FineParts p 4 have n
+    → length (bodyBytes (p .addr) (p .ctrl) (p .block) (p .code) (p .«data») n) + 4 + trailerLen (p .ctrl .1) ≡ n
+body-left p have n f = omega (arith, f .total, body-length (p .addr) (p .ctrl) (p .block) (p .code) (p .«data») n, bytesN-is (p .block))

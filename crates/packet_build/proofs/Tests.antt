@@ -1,0 +1,94 @@
+-- The tests of building, one after the other: what each leaves to the next, and what they hand on.
+-- Assumes nothing.
+use mathlib.Core.Path.{_≡_, sym, ap, _∙_}
+use mathlib.Core.Bool.{Bool, true, false}
+use mathlib.Core.List.{List, [], _∷_}
+use Prim.Native.Nat.{ℕ, _≤_, _<_}
+use native.Mathlib.Omega.{arith}
+use native.Mathlib.Decide.{decLt}
+use borrow.Author.Tests.{le-ltb, lt-ltb, eq-eqb, ne-eqb}
+use Rattle.laws.specs.Answer.{Answer, Answer.given, Answer.refused, refuseIf, andThen}
+use Rattle.laws.proofs.Answers.{given-inj}
+use Rattle.refusal.specs.Paper.{refusalOf, numberOf, valuesOf}
+use Rattle.refusal.specs.declared.Refusal.{Refusal}
+use Rattle.packet_head.specs.Header.{Control, ctrlByte, encodeOf}
+use Rattle.packet_head.specs.Trailer.{macLen}
+use Rattle.packet_build.specs.Build.{differ, testOf, totalN}
+use Rattle.packet_build.specs.Tested.{withCtrl}
+
+-- ---- the control byte, encoded first
+
+pub encode-fine : (c : Control) → c .0 ≤ 3 → encodeOf c ≡ given (ctrlByte c)
+unfolding encodeOf refuseIf
+encode-fine c h = rw (le-ltb _ _ h)
+
+pub encode-over : (c : Control) → 3 < c .0 → encodeOf c ≡ refused 10 (c .0 ∷ [])
+unfolding encodeOf refuseIf
+encode-over c h = rw (lt-ltb _ _ h)
+
+never : {A : Type 0} (a : A) (n : ℕ) (vs : List ℕ) → given a ≡ refused n vs → ⊥
+never a n vs e = let z : _≡_ {A = ℕ} 0 1 = cc in omega arith
+
+pub encoded-sqn : (c : Control) (b : ℕ) → given b ≡ encodeOf c → c .0 ≤ 3
+encoded-sqn c b e = elim (decLt 3 (c .0)) [
+  | yes h ↦ absurd (never b 10 (c .0 ∷ []) (e ∙ encode-over c h))
+  | no n ↦ omega arith
+]
+
+pub encoded-byte : (c : Control) (b : ℕ) → given b ≡ encodeOf c → b ≡ ctrlByte c
+encoded-byte c b e = let k = encode-fine c (encoded-sqn c b e) in cc
+
+-- a refusal to encode is the first test's
+pub encode-refused : (c : Control) (there due : Bool) (mac block dat have : ℕ) (e : Refusal) → _≡_ {A = Answer ℕ} (refusalOf e) (encodeOf c)
+    → refusalOf e ≡ withCtrl c (testOf c there due mac block dat have)
+unfolding testOf refuseIf withCtrl andThen
+encode-refused c there due mac block dat have e h = elim (decLt 3 (c .0)) [
+  | yes l ↦ let k = h ∙ encode-over c l in rw (lt-ltb _ _ l) (cc)
+  | no n ↦ absurd (never (ctrlByte c) (numberOf e) (valuesOf e) (sym (h ∙ encode-fine c (omega arith))))
+]
+
+-- ---- the others, in their order, once the control byte is b
+
+module _ (c : Control) (there due : Bool) (mac block dat have b : ℕ) (e : given b ≡ encodeOf c) where
+  pub refused-3 : differ there (c .2) ≡ true → refused 3 (b ∷ []) ≡ withCtrl c (testOf c there due mac block dat have)
+  unfolding testOf refuseIf withCtrl andThen
+  refused-3 d = rw (le-ltb _ _ (encoded-sqn c b e), d, encoded-byte c b e)
+
+  pub refused-11 : differ there (c .2) ≡ false → (mac ≡ macLen due → ⊥) → refused 11 [] ≡ withCtrl c (testOf c there due mac block dat have)
+  unfolding testOf refuseIf withCtrl andThen
+  refused-11 d m = rw (le-ltb _ _ (encoded-sqn c b e), d, ne-eqb _ _ m)
+
+  pub refused-17 : differ there (c .2) ≡ false → mac ≡ macLen due → 253 < block → refused 17 (block ∷ []) ≡ withCtrl c (testOf c there due mac block dat have)
+  unfolding testOf refuseIf withCtrl andThen
+  refused-17 d m h = rw (le-ltb _ _ (encoded-sqn c b e), d, eq-eqb _ _ m, lt-ltb _ _ h)
+
+  pub refused-12 : differ there (c .2) ≡ false → mac ≡ macLen due → block ≤ 253 → 65535 < totalN (c .1) there mac block dat
+      → refused 12 (totalN (c .1) there mac block dat ∷ 65535 ∷ []) ≡ withCtrl c (testOf c there due mac block dat have)
+  unfolding testOf refuseIf withCtrl andThen
+  refused-12 d m s h = rw (le-ltb _ _ (encoded-sqn c b e), d, eq-eqb _ _ m, le-ltb _ _ s, lt-ltb _ _ h)
+
+  pub refused-18 : differ there (c .2) ≡ false → mac ≡ macLen due → block ≤ 253 → totalN (c .1) there mac block dat ≤ 65535
+      → have < totalN (c .1) there mac block dat
+      → refused 18 (totalN (c .1) there mac block dat ∷ have ∷ []) ≡ withCtrl c (testOf c there due mac block dat have)
+  unfolding testOf refuseIf withCtrl andThen
+  refused-18 d m s h r = rw (le-ltb _ _ (encoded-sqn c b e), d, eq-eqb _ _ m, le-ltb _ _ s, le-ltb _ _ h, lt-ltb _ _ r)
+
+  pub passed : differ there (c .2) ≡ false → mac ≡ macLen due → block ≤ 253 → totalN (c .1) there mac block dat ≤ 65535
+      → totalN (c .1) there mac block dat ≤ have
+      → given (totalN (c .1) there mac block dat, b) ≡ withCtrl c (testOf c there due mac block dat have)
+  unfolding testOf refuseIf withCtrl andThen
+  passed d m s h r = rw (le-ltb _ _ (encoded-sqn c b e), d, eq-eqb _ _ m, le-ltb _ _ s, le-ltb _ _ h, le-ltb _ _ r, encoded-byte c b e)
+
+-- ---- what the tests hand on
+
+pub with-given : (c : Control) (a : Answer ℕ) (n b : ℕ) → given (n, b) ≡ withCtrl c a → (a ≡ given n) × (b ≡ ctrlByte c)
+unfolding withCtrl andThen
+with-given c (given m) n b e =
+    let k = given-inj (n, b) (m, ctrlByte c) e in
+    (ap given (sym (ap (λ (x : ℕ × ℕ). x .0) k)), ap (λ (x : ℕ × ℕ). x .1) k)
+with-given c (refused m vs) n b e = absurd (never (n, b) m vs e)
+
+pub with-refused : (c : Control) (a : Answer ℕ) (e : Refusal) → refusalOf e ≡ withCtrl c a → a ≡ refusalOf e
+unfolding withCtrl andThen
+with-refused c (given m) e h = absurd (never (m, ctrlByte c) (numberOf e) (valuesOf e) (sym h))
+with-refused c (refused m vs) e h = cc

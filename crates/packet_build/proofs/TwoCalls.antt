@@ -1,0 +1,41 @@
+-- The two calls agree: given the MAC, building answers as the first call did, and its first bytes are those of the first call.
+-- Assumes nothing.
+use mathlib.Core.Path.{_≡_, refl, ap, _∙_}
+use mathlib.Core.List.{List, _++_}
+use Prim.Native.Nat.{ℕ}
+use lib.ListN.{length}
+use Rattle.laws.specs.Answer.{Answer, Answer.given, Answer.refused, andThen}
+use Rattle.packet_build.specs.Build.{Parts, bodyBytes, tailBytes, bytesOf, buildOf, bodyOf}
+use Rattle.packet_build.specs.Tested.{partsTest}
+
+-- the parts, with this MAC
+abbrev pub withMac : Parts → List ℕ → Parts
+withMac p m = record { addr = p .addr; ctrl = p .ctrl; block = p .block; code = p .code; «data» = p .«data»; mac = m }
+
+-- a first call's answer, completed by the MAC and the trailer
+abbrev pub completed : Parts → List ℕ → Answer (List ℕ) → Answer (List ℕ)
+completed p m (given b) = given (b ++ m ++ tailBytes (p .ctrl .1) (b ++ m))
+completed p m (refused n vs) = refused n vs
+
+then-completed : (p : Parts) (m : List ℕ) (a : Answer ℕ)
+    → andThen a (λ n. given (bytesOf (withMac p m) n))
+    ≡ completed p m (andThen a (λ n. given (bodyBytes (p .addr) (p .ctrl) (p .block) (p .code) (p .«data») n)))
+unfolding andThen bytesOf
+then-completed p m (given n) = refl
+then-completed p m (refused n vs) = refl
+
+pub two-calls : (p : Parts) (have : ℕ) (m : List ℕ) → length m ≡ 4 → buildOf (withMac p m) have ≡ completed p m (bodyOf p have)
+unfolding buildOf bodyOf
+two-calls p have m h =
+    ap (λ (k : ℕ). andThen (partsTest (p .ctrl) (p .block) k (length (p .«data»)) have) (λ n. given (bytesOf (withMac p m) n))) h
+    ∙ then-completed p m (partsTest (p .ctrl) (p .block) 4 (length (p .«data»)) have)
+
+-- the second call writes what the first one wrote, the MAC, and the trailer of both
+pub two-calls-given : (p : Parts) (have : ℕ) (b m : List ℕ) → length m ≡ 4 → bodyOf p have ≡ given b
+    → buildOf (withMac p m) have ≡ given (b ++ m ++ tailBytes (p .ctrl .1) (b ++ m))
+two-calls-given p have b m h e = two-calls p have m h ∙ ap (completed p m) e
+
+-- and is refused where the first one was
+pub two-calls-refused : (p : Parts) (have : ℕ) (m : List ℕ) (n : ℕ) (vs : List ℕ) → length m ≡ 4 → bodyOf p have ≡ refused n vs
+    → buildOf (withMac p m) have ≡ refused n vs
+two-calls-refused p have m n vs h e = two-calls p have m h ∙ ap (completed p m) e

@@ -1,0 +1,90 @@
+// A packet that is asked for, and its frame, built into a buffer that the caller lends.
+ghost use mathlib.Core.Path.{_≡_};
+ghost use Prim.Native.Nat.{_≤_};
+ghost use lib.ListN.{length};
+ghost use Rattle.packet_build.specs.Build.{macBytes, partsOf, buildOf, bodyOf, built, sized, written};
+use super::put::put_body;
+use super::put::put_mac;
+use super::put::put_tail;
+use super::test::Tested;
+use super::test::test_parts;
+use packet_head::Address;
+use packet_head::ControlByte;
+use packet_head::ScsType;
+use refusal::Refusal;
+
+// The security block's type; its data is lent beside it.
+pub enum BuildBlock {
+    Absent,
+    Of(ScsType),
+}
+
+pub enum GivenMac {
+    Absent,
+    Is(u8, u8, u8, u8),
+}
+
+impl GivenMac {
+    pub(crate) fn size(self) -> usize
+        ensures { λ r. ⌜ (r ≡ length (macBytes self)) × (r ≤ 4) ⌝ }
+    {
+        match self {
+            GivenMac::Absent => 0,
+            GivenMac::Is(_, _, _, _) => 4,
+        }
+    }
+}
+
+pub struct PacketBuilder {
+    pub addr: Address,
+    pub ctrl: ControlByte,
+    pub block: BuildBlock,
+    pub code: u8,
+}
+
+impl PacketBuilder {
+    // A packet with neither block nor MAC.
+    pub fn plain(addr: Address, ctrl: ControlByte, code: u8) -> Self
+        ensures { λ r. ⌜ (r .addr ≡ addr) × (r .ctrl ≡ ctrl) × (r .block ≡ BuildBlock.Absent) × (r .code ≡ code) ⌝ }
+    {
+        Self {
+            addr,
+            ctrl,
+            block: BuildBlock::Absent,
+            code,
+        }
+    }
+}
+
+// How many bytes were written, from the buffer's first on.
+pub enum Built {
+    Done(usize),
+    Refused(Refusal),
+}
+
+// Writes the frame into out, or refuses and leaves out as it is. Where w has no block, the bytes in block are not looked at.
+pub fn build(w: PacketBuilder, block: &[u8], data: &[u8], mac: GivenMac, out: &mut [u8]) -> Built
+    ensures { λ r. ⌜ built r ≡ sized (buildOf (partsOf w (now (block .entry)) (now («data» .entry)) mac) (length (now (out .entry)))) ⌝ }
+    ensures { λ _. ⌜ now (out .exit) ≡ written (buildOf (partsOf w (now (block .entry)) (now («data» .entry)) mac) (length (now (out .entry)))) (now (out .entry)) ⌝ }
+{
+    match test_parts(w, block, data, mac.size(), out.len()) {
+        Tested::Total(total, ctrl) => {
+            let n = put_body(out, w, ctrl, block, data, total);
+            let m = put_mac(out, n, mac);
+            Built::Done(put_tail(out, m, w.ctrl.crc))
+        }
+        Tested::Refused(e) => Built::Refused(e),
+    }
+}
+
+// The first of two calls, for a packet whose MAC is not known yet: it writes what the MAC is worked out over, from 53 to the
+// end of data, where the whole frame would have room. The second is build, given the MAC.
+pub fn build_body(w: PacketBuilder, block: &[u8], data: &[u8], out: &mut [u8]) -> Built
+    ensures { λ r. ⌜ built r ≡ sized (bodyOf (partsOf w (now (block .entry)) (now («data» .entry)) GivenMac.Absent) (length (now (out .entry)))) ⌝ }
+    ensures { λ _. ⌜ now (out .exit) ≡ written (bodyOf (partsOf w (now (block .entry)) (now («data» .entry)) GivenMac.Absent) (length (now (out .entry)))) (now (out .entry)) ⌝ }
+{
+    match test_parts(w, block, data, 4, out.len()) {
+        Tested::Total(total, ctrl) => Built::Done(put_body(out, w, ctrl, block, data, total)),
+        Tested::Refused(e) => Built::Refused(e),
+    }
+}

@@ -1,0 +1,99 @@
+// The parts of a frame, each copied to its place.
+ghost use mathlib.Core.Path.{_≡_};
+ghost use Prim.Native.Nat.{_+_, _≤_, _<_};
+ghost use lib.ListN.{length, take};
+ghost use Rattle.laws.specs.Over.{write};
+ghost use Rattle.packet_head.specs.Header.{control, ctrlByte};
+ghost use Rattle.packet_head.specs.Trailer.{trailerLen};
+ghost use Rattle.packet_build.specs.Build.{blockOf, blockN, blockBytes, bodyBytes, macBytes, tailBytes};
+use super::codec::BuildBlock;
+use super::codec::GivenMac;
+use super::codec::PacketBuilder;
+
+// Copies src into out from at on, and answers the place after it.
+pub(crate) fn copy_in(out: &mut [u8], at: usize, src: &[u8]) -> usize
+    requires { ⌜ at + length (now src) ≤ length (now out) ⌝ }
+    ensures { λ r. ⌜ r ≡ at + length (now (src .entry)) ⌝ }
+    ensures { λ _. ⌜ now (out .exit) ≡ write (now (out .entry)) at (now (src .entry)) ⌝ }
+{
+    let mut i = 0;
+    while i < src.len() {
+        out[at + i] = src[i];
+        i += 1;
+    }
+    at + i
+}
+
+// The block at 5, if there is one; the place after it.
+pub(crate) fn put_block(out: &mut [u8], block: BuildBlock, bytes: &[u8]) -> usize
+    requires { ⌜ (blockN (blockOf block (now bytes)) ≤ 253) × (5 + length (blockBytes (blockOf block (now bytes))) ≤ length (now out)) ⌝ }
+    ensures { λ r. ⌜ r ≡ 5 + length (blockBytes (blockOf block (now (bytes .entry)))) ⌝ }
+    ensures { λ _. ⌜ now (out .exit) ≡ write (now (out .entry)) 5 (blockBytes (blockOf block (now (bytes .entry)))) ⌝ }
+{
+    match block {
+        BuildBlock::Absent => 5,
+        BuildBlock::Of(ty) => {
+            let head = [(bytes.len() + 2) as u8, ty.as_byte()];
+            copy_in(out, 5, &head);
+            copy_in(out, 7, bytes)
+        }
+    }
+}
+
+// From 53 to the end of data; the place after it. `ctrl` is the control byte, encoded.
+pub(crate) fn put_body(
+    out: &mut [u8],
+    w: PacketBuilder,
+    ctrl: u8,
+    bytes: &[u8],
+    data: &[u8],
+    total: usize,
+) -> usize
+    requires { ⌜ (ctrl ≡ ctrlByte (control (w .ctrl))) × (blockN (blockOf (w .block) (now bytes)) ≤ 253) × (total < 65536) × (6 + length (blockBytes (blockOf (w .block) (now bytes))) + length (now «data») ≤ length (now out)) ⌝ }
+    ensures { λ r. ⌜ r ≡ 6 + length (blockBytes (blockOf (w .block) (now (bytes .entry)))) + length (now («data» .entry)) ⌝ }
+    ensures { λ _. ⌜ now (out .exit) ≡ write (now (out .entry)) 0 (bodyBytes (w .addr .0) (control (w .ctrl)) (blockOf (w .block) (now (bytes .entry))) (w .code) (now («data» .entry)) total) ⌝ }
+{
+    let head = [
+        0x53,
+        w.addr.as_byte(),
+        (total % 256) as u8,
+        (total / 256) as u8,
+        ctrl,
+    ];
+    copy_in(out, 0, &head);
+    let block = w.block;
+    let at = put_block(out, block, bytes);
+    let code = [w.code];
+    copy_in(out, at, &code);
+    copy_in(out, at + 1, data)
+}
+
+// The MAC, if there is one; the place after it.
+pub(crate) fn put_mac(out: &mut [u8], at: usize, mac: GivenMac) -> usize
+    requires { ⌜ at + length (macBytes mac) ≤ length (now out) ⌝ }
+    ensures { λ r. ⌜ r ≡ at + length (macBytes mac) ⌝ }
+    ensures { λ _. ⌜ now (out .exit) ≡ write (now (out .entry)) at (macBytes mac) ⌝ }
+{
+    match mac {
+        GivenMac::Absent => at,
+        GivenMac::Is(a, b, c, d) => {
+            let four = [a, b, c, d];
+            copy_in(out, at, &four)
+        }
+    }
+}
+
+// The trailer of what stands before at; the place after it.
+pub(crate) fn put_tail(out: &mut [u8], at: usize, crc: bool) -> usize
+    requires { ⌜ at + trailerLen crc ≤ length (now out) ⌝ }
+    ensures { λ r. ⌜ r ≡ at + trailerLen crc ⌝ }
+    ensures { λ _. ⌜ now (out .exit) ≡ write (now (out .entry)) at (tailBytes crc (take at (now (out .entry)))) ⌝ }
+{
+    if crc {
+        let two = packet_sums::crc16_le(&out[..at]);
+        copy_in(out, at, &two)
+    } else {
+        let one = [packet_sums::checksum8(&out[..at])];
+        copy_in(out, at, &one)
+    }
+}
