@@ -14,7 +14,7 @@ use Rattle.packet_sums.specs.Crc.{reduce, crcBit, crcBits, crcByte, crcF
 use Rattle.packet_sums.specs.Word.{wordFrom, bytesOf, crcWord}
 use Rattle.packet_sums.proofs.Linear.{Linear, linear-same, linear-after, linear-shr, linear-mod, linear-shl, linear-xor, agree-tried}
 use Rattle.packet_sums.proofs.CrcLaws.{byte-linear, crc-cons, crc-split}
-use Rattle.packet_sums.proofs.WordLaws.{word-lead, crc-word-zero, crc-word-linear, crc-word-from, crc-word-two}
+use Rattle.packet_sums.proofs.WordLaws.{crc-word-zero, crc-word-linear, crc-word-from, crc-word-two}
 
 -- ---- one byte
 

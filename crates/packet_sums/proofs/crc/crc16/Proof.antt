@@ -37,7 +37,7 @@ loop-again c =
     let t = take 8 (drop (l .i) s) in
     let fits : l .i + 8 ≤ length s = omega arith in
     let e : c .crc-word .result ≡ crcFrom (l .crc) t =
-    c .crc-word .ensures ∙ ap (λ (w : ℕ). crcWord 8 (bitXor (l .crc * 2 ^ 48 % 2 ^ 64) w)) (c .before .read8 .ensures)
+    c .crc-word .ensures ∙ ap (λ (w : ℕ). crcWord 8 (bitXor (l .crc * 2 ^ 48 % 2 ^ 64) w)) (c .before .word-at .ensures)
     ∙ word-step (l .crc) t (omega arith) (bytes-take 8 (drop (l .i) s) (bytes-drop (l .i) s (λ i. b .shared-slice-known .given i .fits))) (part-length s (l .i) 8 fits) in (
       omega arith,
       omega arith,
