@@ -1,21 +1,18 @@
 -- Bytes as one number: parts put together, bounds, and the CRC of the number's bytes.
 -- Assumes nothing.
-use mathlib.Core.Path.{_≡_, refl, sym, ap, ap₂, _∙_, subst}
-use mathlib.Core.List.{List, [], _∷_, _++_}
+use mathlib.Core.Path.{_≡_, refl, sym, ap, ap₂, _∙_}
+use mathlib.Core.List.{List, [], _∷_}
 use Prim.Native.Nat.{ℕ, zero, suc, _+_, _*_, _/_, _%_, _^_, _<_, _≤_}
-use native.Mathlib.Nat.{add-zero, zero-add, add-suc, suc-add, one-mul, mul-assoc, mul-comm, add-mul, add-assoc, pow-suc}
-use native.Mathlib.Numerals.{add-one}
+use native.Mathlib.Nat.{add-zero, add-suc, suc-add, mul-assoc, add-mul}
 use native.Mathlib.Omega.{arith}
 use lib.Bits.{bitOr, bitXor, xor-shr, xor-mod, or-shifted}
 use lib.Pow.{pow-add, shl-lt, shl-exact}
-use lib.Dec.{lit<}
 use lib.ListN.{length, take, drop, getD, length-drop}
 use lib.Seq.{length-take-le, drop-cons}
 use Rattle.laws.specs.Bytes.{Bytes}
 use Rattle.laws.specs.Table.{from}
-use Rattle.laws.proofs.ByteLists.{bytes-take, bytes-drop}
 use Rattle.laws.proofs.Lists.{drop-next}
-use Rattle.packet_sums.specs.Crc.{reduce, crcBit, crcBits, crcByte, crcFrom}
+use Rattle.packet_sums.specs.Crc.{crcByte, crcFrom}
 use Rattle.packet_sums.specs.Word.{wordFrom, bytesOf, crcWord}
 use Rattle.packet_sums.proofs.Linear.{Linear, linear-zero}
 use Rattle.packet_sums.proofs.CrcLaws.{crc-nil, crc-cons, crc-append, byte-linear}
@@ -45,6 +42,9 @@ rest-read s i j (suc n) h =
 pub part-read : (s : List ℕ) (i n : ℕ) → i + suc n ≤ length s → take (suc n) (drop i s) ≡ getD s i 0 ∷ from (λ k. getD s (i + k) 0) 1 n
 part-read s i n h =
     ap (take (suc n)) (drop-next s i (omega arith)) ∙ ap (λ (l : List ℕ). getD s i 0 ∷ l) (rest-read s i 1 n (omega arith))
+
+pub word-same : (a : ℕ) {s t : List ℕ} {w : ℕ} → s ≡ t → w ≡ wordFrom a t → w ≡ wordFrom a s
+word-same a f e = e ∙ ap (wordFrom a) (sym f)
 
 -- a byte put in below what stands above it
 pub or-next : {X : ℕ} (k x b : ℕ) → b < 256 → 8 + k ≤ 64 → X ≡ x * 2 ^ (8 + k) → bitOr X (b * 2 ^ k % 2 ^ 64) ≡ (x * 256 + b) * 2 ^ k

@@ -10,7 +10,7 @@ use lib.ListN.{length, take, drop, drop-of-length-le}
 use lib.Seq.{drop-drop}
 use Rattle.laws.proofs.ByteLists.{bytes-take, bytes-drop}
 use Rattle.packet_sums.specs.Crc.{crcFrom, crcOf}
-use Rattle.packet_sums.specs.Word.{wordFrom, crcWord}
+use Rattle.packet_sums.specs.Word.{crcWord}
 use Rattle.packet_sums.proofs.CrcLaws.{crc-nil, crc-cut}
 use Rattle.packet_sums.proofs.WordLaws.{part-length}
 use Rattle.packet_sums.proofs.Step.{word-step}

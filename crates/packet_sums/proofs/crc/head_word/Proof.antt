@@ -7,7 +7,7 @@ use borrow.Author.Needs.{needs}
 use native.Mathlib.Omega.{arith}
 use lib.ListN.{length, take}
 use Rattle.packet_sums.specs.Word.{wordFrom}
-use Rattle.packet_sums.proofs.WordLaws.{word-nil, part-read}
+use Rattle.packet_sums.proofs.WordLaws.{word-nil, word-same, part-read}
 use Rattle.packet_sums.proofs.crc.head_word.Statement.{statement}
 use Rattle.packet_sums.proofs.crc.head_word.Tie as tie
 
@@ -22,19 +22,19 @@ returns-2 : tie.Need-returns-2
 unfolding wordFrom
 returns-2 c =
     let s = c .before .before .before .before .before .before .args .s .now in
-    found s 2 (c .word-be .result) (c .word-be .ensures ∙ ap (wordFrom 0xFFFF) (sym (part-read s 0 1 (omega arith)))) (omega arith)
+    found s 2 (c .word-be .result) (word-same 0xFFFF (part-read s 0 1 (omega arith)) (c .word-be .ensures)) (omega arith)
 
 returns-3 : tie.Need-returns-3
 unfolding wordFrom
 returns-3 c =
     let s = c .before .before .before .before .before .before .before .before .before .args .s .now in
-    found s 4 (c .word-be2 .result) (c .word-be2 .ensures ∙ ap (wordFrom 0xFFFF) (sym (part-read s 0 3 (omega arith)))) (omega arith)
+    found s 4 (c .word-be2 .result) (word-same 0xFFFF (part-read s 0 3 (omega arith)) (c .word-be2 .ensures)) (omega arith)
 
 returns-4 : tie.Need-returns-4
 unfolding wordFrom
 returns-4 c =
     let s = c .before .before .before .before .before .before .before .before .before .before .before .args .s .now in
-    found s 6 (c .word-be3 .result) (c .word-be3 .ensures ∙ ap (wordFrom 0xFFFF) (sym (part-read s 0 5 (omega arith)))) (omega arith)
+    found s 6 (c .word-be3 .result) (word-same 0xFFFF (part-read s 0 5 (omega arith)) (c .word-be3 .ensures)) (omega arith)
 
 pub head-word-spec : {M : Type 1} → statement M
 head-word-spec =
