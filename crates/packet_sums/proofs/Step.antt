@@ -11,7 +11,7 @@ use lib.Dec.{lit<}
 use lib.ListN.{length}
 use Rattle.laws.specs.Bytes.{Bytes, zeros}
 use Rattle.laws.proofs.ByteLists.{bytes-zeros}
-use Rattle.packet_sums.specs.Crc.{reduce, crcBit, crcBits, crcByte, crcFrom, crcOf}
+use Rattle.packet_sums.specs.Crc.{start, reduce, crcBit, crcBits, crcByte, crcFrom, crcOf}
 use Rattle.packet_sums.specs.Word.{wordFrom, bytesOf, crcWord}
 use Rattle.packet_sums.proofs.Linear.{Linear, linear-same, linear-after, linear-xor, linear-shr, linear-shl, linear-mod, Power, linear-div, linear-times, Tried, agree-tried}
 use Rattle.packet_sums.proofs.CrcLaws.{byte-linear, crc-cons, crc-split}
@@ -121,12 +121,12 @@ word-step c s h hb e =
     ∙ sym (crc-split c s)
 
 -- the start is the CRC of FFFF from 0
-start : (n : ℕ) → crcWord (suc (suc n)) 0xFFFF ≡ 0x1D0F
+from-ffff : (n : ℕ) → crcWord (suc (suc n)) 0xFFFF ≡ start
 unfolding crcByte crcBits crcBit reduce
-start n = crc-word-two n 0xFFFF (lit< tt)
+from-ffff n = crc-word-two n 0xFFFF (lit< tt)
 
 pub word-start : (s : List ℕ) → Bytes s → length s ≤ 6 → crcWord 8 (wordFrom 0xFFFF s) ≡ crcOf s
 word-start s hb h =
     let n = 6 - length s in
     let e : 8 ≡ suc (suc n) + length s = omega arith in
-    ap (λ (m : ℕ). crcWord m (wordFrom 0xFFFF s)) e ∙ crc-word-from s (suc (suc n)) 0xFFFF hb ∙ ap (λ (x : ℕ). crcFrom x s) (start n)
+    ap (λ (m : ℕ). crcWord m (wordFrom 0xFFFF s)) e ∙ crc-word-from s (suc (suc n)) 0xFFFF hb ∙ ap (λ (x : ℕ). crcFrom x s) (from-ffff n)
