@@ -13,7 +13,7 @@ use lib.Seq.{take-suc}
 use Rattle.laws.specs.Bytes.{xorl, zeros}
 use Rattle.laws.proofs.Xor.{bit-ind, xor-assoc}
 use Rattle.laws.proofs.Lists.{drop-next}
-use Rattle.packet_sums.specs.Crc.{reduce, crcBit, crcBits, crcByte, crcFrom, crcOf}
+use Rattle.packet_sums.specs.Crc.{polynomial, start, reduce, crcBit, crcBits, crcByte, crcFrom, crcOf}
 use Rattle.packet_sums.proofs.Linear.{Linear, linear-same, linear-after, xor-swap, xor-shl}
 
 -- ---- clauses
@@ -50,7 +50,7 @@ choice-lt false a b ha hb = hb
 
 reduce-lt : (out c : ℕ) → c < 65536 → reduce out c < 65536
 unfolding reduce
-reduce-lt out c h = choice-lt (eqb out 0) c (bitXor c 0x1021) h (xor-lt 16 c 0x1021 h (lit< tt))
+reduce-lt out c h = choice-lt (eqb out 0) c (bitXor c polynomial) h (xor-lt 16 c polynomial h (lit< tt))
 
 pub bit-lt : (c : ℕ) → crcBit c < 65536
 unfolding crcBit
@@ -66,7 +66,7 @@ from-lt [] c h = h
 from-lt (b ∷ s) c h = from-lt s (crcByte c b) (byte-lt c b)
 
 pub crc-lt : (s : List ℕ) → crcOf s < 65536
-crc-lt s = from-lt s 0x1D0F (lit< tt)
+crc-lt s = from-lt s start (lit< tt)
 
 -- ---- linearity
 
@@ -77,10 +77,10 @@ reduce-xor : (s : ℕ) → s < 2 → (t : ℕ) → t < 2 → Reduced s t
 unfolding reduce
 reduce-xor =
     bit-ind (λ s. (t : ℕ) → t < 2 → Reduced s t)
-    (bit-ind (Reduced 0) (λ v w. refl) (λ v w. xor-assoc v w 0x1021))
+    (bit-ind (Reduced 0) (λ v w. refl) (λ v w. xor-assoc v w polynomial))
     (bit-ind (Reduced 1)
-    (λ v w. xor-swap v w 0x1021 0 ∙ ap (bitXor (bitXor v 0x1021)) (xor-zero-r w))
-    (λ v w. sym (xor-zero-r (bitXor v w)) ∙ xor-swap v w 0x1021 0x1021))
+    (λ v w. xor-swap v w polynomial 0 ∙ ap (bitXor (bitXor v polynomial)) (xor-zero-r w))
+    (λ v w. sym (xor-zero-r (bitXor v w)) ∙ xor-swap v w polynomial polynomial))
 
 bit-xor : (x y : ℕ) → crcBit (bitXor x y) ≡ bitXor (crcBit x) (crcBit y)
 unfolding crcBit

@@ -3,3 +3,4 @@ pub mod SumLaws
 pub mod CrcLaws
 pub mod WordLaws
 pub mod Step
+pub mod Worked

@@ -2,6 +2,7 @@
 -- since such a number is the exclusive or of some of those powers.
 -- Assumes nothing.
 use mathlib.Core.Path.{_≡_, refl, sym, ap, ap₂, _∙_, subst}
+use mathlib.Core.Bool.{cond}
 use Prim.Native.Nat.{ℕ, zero, suc, _+_, _-_, _*_, _/_, _%_, _^_, _<_}
 use native.Mathlib.Nat.{add-zero, zero-add, one-mul, pow-suc}
 use native.Mathlib.Decide.{decLt}
@@ -50,6 +51,20 @@ xor-shl k x y =
 pub linear-shl : {f : ℕ → ℕ} → Linear f → (k : ℕ) → Linear (λ x. f x * 2 ^ k)
 linear-shl {f} h k = record { apart = λ x y. ap (λ (n : ℕ). n * 2 ^ k) (h .apart x y) ∙ xor-shl k (f x) (f y) }
 
+-- the same for a power of two that is given as a number, and found to be one by a test
+unfoldable pub logOf : ℕ → ℕ → ℕ
+logOf zero d = 0
+logOf (suc k) d = cond (eqb d (2 ^ suc k)) (suc k) (logOf k d)
+
+abbrev pub Power : ℕ → Type 0
+Power d = T (eqb d (2 ^ logOf 63 d))
+
+pub linear-div : {f : ℕ → ℕ} → Linear f → (d : ℕ) → Power d → Linear (λ x. f x / d)
+linear-div {f} h d p = subst (λ (n : ℕ). Linear (λ x. f x / n)) (sym (eqb→eq d (2 ^ logOf 63 d) p)) (linear-shr h (logOf 63 d))
+
+pub linear-times : {f : ℕ → ℕ} → Linear f → (d : ℕ) → Power d → Linear (λ x. f x * d)
+linear-times {f} h d p = subst (λ (n : ℕ). Linear (λ x. f x * n)) (sym (eqb→eq d (2 ^ logOf 63 d) p)) (linear-shl h (logOf 63 d))
+
 -- ---- what follows
 
 pub linear-zero : {f : ℕ → ℕ} → Linear f → f 0 ≡ 0
@@ -73,8 +88,10 @@ agree {f} {g} hf hg (suc k) e x h =
     (λ y lt. hf .apart (2 ^ k) y ∙ ap₂ bitXor (e k (omega arith)) (ih y lt) ∙ sym (hg .apart (2 ^ k) y)) x h
 
 -- the same, the powers tried one after the other by a test
-pub agree-tried : {f g : ℕ → ℕ} → Linear f → Linear g → (k : ℕ) → T (every (λ i x. eqb (f x) (g x)) 0 (from (λ i. 2 ^ i) 0 k))
-    → (x : ℕ) → x < 2 ^ k → f x ≡ g x
+abbrev pub Tried : (ℕ → ℕ) → (ℕ → ℕ) → ℕ → Type 0
+Tried f g k = T (every (λ i x. eqb (f x) (g x)) 0 (from (λ i. 2 ^ i) 0 k))
+
+pub agree-tried : {f g : ℕ → ℕ} → Linear f → Linear g → (k : ℕ) → Tried f g k → (x : ℕ) → x < 2 ^ k → f x ≡ g x
 agree-tried {f} {g} hf hg k t =
     let s = from (λ i. 2 ^ i) 0 k in
     agree hf hg k

@@ -1,4 +1,5 @@
--- The steps that the code takes, with no table, are the definition's: both sides are linear, and equal at each power of two.
+-- The steps that the code takes, with no table, are the definition's: both sides are linear, and equal at each power of two. The
+-- divisors and factors of the code's shifts are parameters here, and a test decides whether they are right.
 -- Assumes nothing.
 use mathlib.Core.Path.{_≡_, sym, ap, ap₂, _∙_}
 use mathlib.Core.List.{List, _∷_}
@@ -10,93 +11,88 @@ use lib.Dec.{lit<}
 use lib.ListN.{length}
 use Rattle.laws.specs.Bytes.{Bytes, zeros}
 use Rattle.laws.proofs.ByteLists.{bytes-zeros}
-use Rattle.packet_sums.specs.Crc.{reduce, crcBit, crcBits, crcByte, crcFrom, crcOf}
+use Rattle.packet_sums.specs.Crc.{start, reduce, crcBit, crcBits, crcByte, crcFrom, crcOf}
 use Rattle.packet_sums.specs.Word.{wordFrom, bytesOf, crcWord}
-use Rattle.packet_sums.proofs.Linear.{Linear, linear-same, linear-after, linear-shr, linear-mod, linear-shl, linear-xor, agree-tried}
+use Rattle.packet_sums.proofs.Linear.{Linear, linear-same, linear-after, linear-xor, linear-shr, linear-shl, linear-mod, Power, linear-div, linear-times, Tried, agree-tried}
 use Rattle.packet_sums.proofs.CrcLaws.{byte-linear, crc-cons, crc-split}
 use Rattle.packet_sums.proofs.WordLaws.{crc-word-zero, crc-word-linear, crc-word-from, crc-word-two}
 
--- ---- one byte
+-- a number and what it is after a shift down, one or several, together
+abbrev one : ℕ → ℕ → ℕ
+one p z = bitXor z (z / p)
 
-abbrev pub quotient : ℕ → ℕ
-quotient t = bitXor t (t / 16)
+abbrev two : ℕ → ℕ → ℕ → ℕ
+two p q z = bitXor (one p z) (z / q)
 
-abbrev pub shiftByte : ℕ → ℕ → ℕ
-shiftByte c b =
-    let q = quotient (bitXor (c / 256) b) in
-    bitXor (bitXor (bitXor (c * 256 % 65536) (q * 4096 % 65536)) (q * 32 % 65536)) q
+abbrev three : ℕ → ℕ → ℕ → ℕ → ℕ
+three p q r z = bitXor (two p q z) (z / r)
 
--- v is the value so far with the byte below it
-quotient-linear : Linear (λ v. quotient (bitXor (v / 256 / 256) (v % 256)))
-quotient-linear =
-    let t = linear-xor (linear-shr (linear-shr linear-same 8) 8) (linear-mod linear-same 8) in
-    linear-xor t (linear-shr t 4)
+one-linear : (p : ℕ) → Power p → Linear (one p)
+one-linear p hp = linear-xor linear-same (linear-div linear-same p hp)
 
--- moved up by k digits, in sixteen
-up : {f : ℕ → ℕ} → Linear f → (k : ℕ) → Linear (λ x. f x * 2 ^ k % 65536)
-up h k = linear-mod (linear-shl h k) 16
+two-linear : (p q : ℕ) → Power p → Power q → Linear (two p q)
+two-linear p q hp hq = linear-xor (one-linear p hp) (linear-div linear-same q hq)
 
-shift-linear : Linear (λ v. shiftByte (v / 256) (v % 256))
-shift-linear =
-    let q = quotient-linear in
-    linear-xor (linear-xor (linear-xor (up (linear-shr linear-same 8) 8) (up q 12)) (up q 5)) q
+three-linear : (p q r : ℕ) → Power p → Power q → Power r → Linear (three p q r)
+three-linear p q r hp hq hr = linear-xor (two-linear p q hp hq) (linear-div linear-same r hr)
+
+-- ---- one byte: v is the value so far with the byte below it
 
 crc-byte-linear : Linear (λ v. crcByte (v / 256) (v % 256))
 crc-byte-linear = record {
   apart = λ x y. ap₂ crcByte (xor-shr x y 8) (xor-mod x y 8) ∙ byte-linear (x / 256) (y / 256) (x % 256) (y % 256);
 }
 
-joined : (v : ℕ) → v < 16777216 → shiftByte (v / 256) (v % 256) ≡ crcByte (v / 256) (v % 256)
-unfolding crcByte crcBits crcBit reduce
-joined = agree-tried shift-linear crc-byte-linear 24 tt
+module _ (p m n : ℕ) where
+  abbrev pub shiftByte : ℕ → ℕ → ℕ
+  shiftByte c b =
+      let q = one p (bitXor (c / 256) b) in
+      bitXor (bitXor (bitXor (c * 256 % 65536) (q * m % 65536)) (q * n % 65536)) q
 
-pub shift-byte : (c b : ℕ) → c < 65536 → b < 256 → shiftByte c b ≡ crcByte c b
-shift-byte c b hc hb =
-    let v = c * 256 + b in
-    let h : v / 256 ≡ c = omega arith in
-    let l : v % 256 ≡ b = omega arith in
-    sym (ap₂ shiftByte h l) ∙ joined v (omega arith) ∙ ap₂ crcByte h l
+  abbrev pub shifted : ℕ → ℕ
+  shifted v = shiftByte (v / 256) (v % 256)
+
+  shift-byte-linear : Power p × Power m × Power n → Linear shifted
+  shift-byte-linear h =
+      let top = linear-shr linear-same 8 in
+      let q = linear-after (one-linear p (h .0)) (linear-xor (linear-shr top 8) (linear-mod linear-same 8)) in
+      linear-xor
+      (linear-xor (linear-xor (linear-mod (linear-shl top 8) 16) (linear-mod (linear-times q m (h .1)) 16)) (linear-mod (linear-times q n (h .2)) 16)) q
+
+  pub shift-byte : Power p × Power m × Power n → Tried shifted (λ v. crcByte (v / 256) (v % 256)) 24
+      → (c b : ℕ) → c < 65536 → b < 256 → shiftByte c b ≡ crcByte c b
+  shift-byte h t c b hc hb =
+      let v = c * 256 + b in
+      let high : v / 256 ≡ c = omega arith in
+      let low : v % 256 ≡ b = omega arith in
+      sym (ap₂ shiftByte high low) ∙ agree-tried (shift-byte-linear h) crc-byte-linear 24 t v (omega arith) ∙ ap₂ crcByte high low
 
 -- ---- eight bytes
 
-abbrev pub three : ℕ → ℕ → ℕ → ℕ → ℕ
-three i j k z = bitXor (bitXor (bitXor z (z / 2 ^ i)) (z / 2 ^ j)) (z / 2 ^ k)
+abbrev spread : ℕ → ℕ → ℕ → ℕ
+spread m n q = bitXor (bitXor (q * m % 2 ^ 64) (q * n % 2 ^ 64)) q % 65536
 
-abbrev pub two : ℕ → ℕ → ℕ → ℕ
-two i j z = bitXor (bitXor z (z / 2 ^ i)) (z / 2 ^ j)
+spread-linear : (m n : ℕ) → Power m → Power n → Linear (spread m n)
+spread-linear m n hm hn =
+    let up = linear-mod (linear-times linear-same m hm) 64 in
+    linear-mod (linear-xor (linear-xor up (linear-mod (linear-times linear-same n hn) 64)) linear-same) 16
 
-abbrev pub one : ℕ → ℕ → ℕ
-one i z = bitXor z (z / 2 ^ i)
+module _ (a b c d e f g h i m n : ℕ) where
+  abbrev pub shiftWord : ℕ → ℕ
+  shiftWord z = spread m n (one i (two g h (three d e f (three a b c z))))
 
-abbrev pub spread : ℕ → ℕ
-spread q = bitXor (bitXor (q * 4096 % 2 ^ 64) (q * 32 % 2 ^ 64)) q % 65536
+  abbrev pub Powers : Type 0
+  Powers = (Power a × Power b × Power c) × (Power d × Power e × Power f) × (Power g × Power h) × Power i × (Power m × Power n)
 
-three-linear : (i j k : ℕ) → Linear (three i j k)
-three-linear i j k =
-    let e = linear-same in
-    linear-xor (linear-xor (linear-xor e (linear-shr e i)) (linear-shr e j)) (linear-shr e k)
+  shift-word-linear : Powers → Linear shiftWord
+  shift-word-linear p =
+      linear-after (spread-linear m n (p .4 .0) (p .4 .1))
+      (linear-after (one-linear i (p .3))
+      (linear-after (two-linear g h (p .2 .0) (p .2 .1))
+      (linear-after (three-linear d e f (p .1 .0) (p .1 .1) (p .1 .2)) (three-linear a b c (p .0 .0) (p .0 .1) (p .0 .2)))))
 
-two-linear : (i j : ℕ) → Linear (two i j)
-two-linear i j = linear-xor (linear-xor linear-same (linear-shr linear-same i)) (linear-shr linear-same j)
-
-one-linear : (i : ℕ) → Linear (one i)
-one-linear i = linear-xor linear-same (linear-shr linear-same i)
-
-spread-linear : Linear spread
-spread-linear =
-    let e = linear-same in
-    linear-mod (linear-xor (linear-xor (linear-mod (linear-shl e 12) 64) (linear-mod (linear-shl e 5) 64)) e) 16
-
-abbrev pub shiftWord : ℕ → ℕ
-shiftWord z = spread (one 32 (two 16 44 (three 8 22 32 (three 4 11 16 z))))
-
-shift-word-linear : Linear shiftWord
-shift-word-linear =
-    linear-after spread-linear (linear-after (one-linear 32) (linear-after (two-linear 16 44) (linear-after (three-linear 8 22 32) (three-linear 4 11 16))))
-
-pub shift-word : (z : ℕ) → z < 2 ^ 64 → shiftWord z ≡ crcWord 8 z
-unfolding crcWord bytesOf crcFrom crcByte crcBits crcBit reduce
-shift-word = agree-tried shift-word-linear (crc-word-linear 8) 64 tt
+  pub shift-word : Powers → Tried shiftWord (crcWord 8) 64 → (z : ℕ) → z < 2 ^ 64 → shiftWord z ≡ crcWord 8 z
+  shift-word p t = agree-tried (shift-word-linear p) (crc-word-linear 8) 64 t
 
 -- the value so far, as the two bytes at the top of a number
 start-linear : Linear (λ c. crcByte (crcByte c 0) 0)
@@ -125,12 +121,12 @@ word-step c s h hb e =
     ∙ sym (crc-split c s)
 
 -- the start is the CRC of FFFF from 0
-start : (n : ℕ) → crcWord (suc (suc n)) 0xFFFF ≡ 0x1D0F
+from-ffff : (n : ℕ) → crcWord (suc (suc n)) 0xFFFF ≡ start
 unfolding crcByte crcBits crcBit reduce
-start n = crc-word-two n 0xFFFF (lit< tt)
+from-ffff n = crc-word-two n 0xFFFF (lit< tt)
 
 pub word-start : (s : List ℕ) → Bytes s → length s ≤ 6 → crcWord 8 (wordFrom 0xFFFF s) ≡ crcOf s
 word-start s hb h =
     let n = 6 - length s in
     let e : 8 ≡ suc (suc n) + length s = omega arith in
-    ap (λ (m : ℕ). crcWord m (wordFrom 0xFFFF s)) e ∙ crc-word-from s (suc (suc n)) 0xFFFF hb ∙ ap (λ (x : ℕ). crcFrom x s) (start n)
+    ap (λ (m : ℕ). crcWord m (wordFrom 0xFFFF s)) e ∙ crc-word-from s (suc (suc n)) 0xFFFF hb ∙ ap (λ (x : ℕ). crcFrom x s) (from-ffff n)

@@ -2,7 +2,7 @@
 -- Assumes nothing.
 use mathlib.Core.Path.{_≡_, refl, sym, ap, _∙_}
 use mathlib.Core.List.{List, [], _∷_, _++_}
-use Prim.Native.Nat.{ℕ, _+_, _-_, _%_, _<_}
+use Prim.Native.Nat.{ℕ, _+_, _%_, _<_}
 use native.Mathlib.Nat.{zero-add}
 use native.Mathlib.Omega.{arith}
 use lib.ListN.{length, getD, drop}
@@ -21,6 +21,10 @@ pub sum-append : (a b : List ℕ) → sumOf (a ++ b) ≡ sumOf a + sumOf b
 unfolding sumOf
 sum-append [] b = sym (zero-add (sumOf b))
 sum-append (x ∷ a) b = ap (λ (n : ℕ). x + n) (sum-append a b) ∙ omega arith
+
+-- modulo 256, as the checksum takes it
+pub sum-append-mod : (a b : List ℕ) → sumOf (a ++ b) % 256 ≡ (sumOf a % 256 + sumOf b % 256) % 256
+sum-append-mod a b = omega (arith, sum-append a b)
 
 pub sum-drop : (s : List ℕ) (i : ℕ) → i < length s → sumOf (drop i s) ≡ getD s i 0 + sumOf (drop (i + 1) s)
 sum-drop s i h = ap sumOf (drop-next s i h) ∙ sum-cons (getD s i 0) (drop (i + 1) s)

@@ -1,16 +1,16 @@
 -- Bytes as one number: parts put together, bounds, and the CRC of the number's bytes.
 -- Assumes nothing.
-use mathlib.Core.Path.{_≡_, refl, sym, ap, ap₂, _∙_, subst}
-use mathlib.Core.List.{List, [], _∷_, _++_}
+use mathlib.Core.Path.{_≡_, refl, sym, ap, ap₂, _∙_}
+use mathlib.Core.List.{List, [], _∷_}
 use Prim.Native.Nat.{ℕ, zero, suc, _+_, _*_, _/_, _%_, _^_, _<_, _≤_}
-use native.Mathlib.Nat.{add-zero, zero-add, add-suc, suc-add, one-mul, mul-assoc, mul-comm, add-mul, add-assoc, pow-suc}
+use native.Mathlib.Nat.{add-zero, add-suc, suc-add, mul-assoc, add-mul}
 use native.Mathlib.Omega.{arith}
-use lib.Bits.{bitXor, xor-shr, xor-mod}
-use lib.Dec.{lit<}
+use lib.Bits.{bitOr, bitXor, xor-shr, xor-mod, or-shifted}
+use lib.Pow.{pow-add, shl-lt, shl-exact}
 use lib.ListN.{length, take, drop, getD, length-drop}
-use lib.Seq.{length-take-le, take-add, drop-drop}
+use lib.Seq.{length-take-le, drop-cons}
 use Rattle.laws.specs.Bytes.{Bytes}
-use Rattle.laws.proofs.ByteLists.{bytes-take, bytes-drop}
+use Rattle.laws.specs.Table.{from}
 use Rattle.laws.proofs.Lists.{drop-next}
 use Rattle.packet_sums.specs.Crc.{crcByte, crcFrom}
 use Rattle.packet_sums.specs.Word.{wordFrom, bytesOf, crcWord}
@@ -27,61 +27,33 @@ pub word-cons : (a b : ℕ) (s : List ℕ) → wordFrom a (b ∷ s) ≡ wordFrom
 unfolding wordFrom
 word-cons a b s = refl
 
-pub word-append : (s t : List ℕ) (a : ℕ) → wordFrom a (s ++ t) ≡ wordFrom (wordFrom a s) t
-unfolding wordFrom
-word-append [] t a = refl
-word-append (b ∷ s) t a = word-append s t (a * 256 + b)
-
--- what stands before the bytes is moved up past them
-pub word-lead : (s : List ℕ) (a : ℕ) → wordFrom a s ≡ a * 256 ^ length s + wordFrom 0 s
-unfolding wordFrom
-word-lead [] a = omega arith
-word-lead (b ∷ s) a =
-    let p = 256 ^ length s in
-    let e : (a * 256 + b) * p ≡ a * 256 ^ suc (length s) + b * p =
-    add-mul (a * 256) b p ∙ ap (λ (n : ℕ). n + b * p) (mul-assoc a 256 p ∙ ap (λ (n : ℕ). a * n) (mul-comm 256 p ∙ sym (pow-suc 256 (length s)))) in
-    word-lead s (a * 256 + b) ∙ ap (λ (n : ℕ). n + wordFrom 0 s) e ∙ add-assoc (a * 256 ^ suc (length s)) (b * p) (wordFrom 0 s)
-    ∙ ap (λ (n : ℕ). a * 256 ^ suc (length s) + n) (sym (word-lead s (0 * 256 + b) ∙ ap (λ (n : ℕ). n * p + wordFrom 0 s) (zero-add b)))
-
-pub word-lt : (s : List ℕ) (a k : ℕ) → Bytes s → a < k → wordFrom a s < k * 256 ^ length s
-unfolding wordFrom
-word-lt [] a k h l = omega arith
-word-lt (b ∷ s) a k h l =
-    let hb : b < 256 = h 0 in
-    let e : k * 256 * 256 ^ length s ≡ k * 256 ^ suc (length s) =
-    mul-assoc k 256 (256 ^ length s) ∙ ap (λ (n : ℕ). k * n) (mul-comm 256 (256 ^ length s) ∙ sym (pow-suc 256 (length s))) in
-    subst (λ (n : ℕ). wordFrom (a * 256 + b) s < n) e (word-lt s (a * 256 + b) (k * 256) (λ i. h (suc i)) (omega arith))
-
 -- ---- parts of a list of bytes
 
-module _ (s : List ℕ) (at n : ℕ) (fits : at + n ≤ length s) where
-  pub part-length : length (take n (drop at s)) ≡ n
-  part-length = length-take-le n (drop at s) (omega (arith, length-drop at s))
+pub part-length : (s : List ℕ) (i n : ℕ) → i + n ≤ length s → length (take n (drop i s)) ≡ n
+part-length s i n h = length-take-le n (drop i s) (omega (arith, length-drop i s))
 
-  pub part-lt : (a k : ℕ) → Bytes s → a < k → wordFrom a (take n (drop at s)) < k * 256 ^ n
-  part-lt a k h l =
-      subst (λ (m : ℕ). wordFrom a (take n (drop at s)) < k * 256 ^ m) part-length
-      (word-lt (take n (drop at s)) a k (bytes-take n (drop at s) (bytes-drop at s h)) l)
+rest-read : (s : List ℕ) (i j n : ℕ) → i + j + n ≤ length s → take n (drop (i + j) s) ≡ from (λ k. getD s (i + k) 0) j n
+rest-read s i j zero h = refl
+rest-read s i j (suc n) h =
+    ap (take (suc n)) (drop-cons s (i + j) 0 (omega arith))
+    ∙ ap (λ (l : List ℕ). getD s (i + j) 0 ∷ l) (ap (λ (k : ℕ). take n (drop k s)) (sym (add-suc i j)) ∙ rest-read s i (suc j) n (omega arith))
 
-pub read-lt : (s : List ℕ) (at n : ℕ) → at + n ≤ length s → Bytes s → wordFrom 0 (take n (drop at s)) < 256 ^ n
-read-lt s at n fits h = subst (λ (m : ℕ). wordFrom 0 (take n (drop at s)) < m) (one-mul (256 ^ n)) (part-lt s at n fits 0 1 h (lit< tt))
+-- the bytes that are read one by one
+pub part-read : (s : List ℕ) (i n : ℕ) → i + suc n ≤ length s → take (suc n) (drop i s) ≡ getD s i 0 ∷ from (λ k. getD s (i + k) 0) 1 n
+part-read s i n h =
+    ap (take (suc n)) (drop-next s i (omega arith)) ∙ ap (λ (l : List ℕ). getD s i 0 ∷ l) (rest-read s i 1 n (omega arith))
 
-pub part-two : (s : List ℕ) (at : ℕ) → at + 2 ≤ length s → wordFrom 0 (take 2 (drop at s)) ≡ getD s at 0 * 256 + getD s (at + 1) 0
-unfolding wordFrom
-part-two s at h =
-    ap (λ (l : List ℕ). wordFrom 0 (take 2 l)) (drop-next s at (omega arith) ∙ ap (λ (l : List ℕ). getD s at 0 ∷ l) (drop-next s (at + 1) (omega arith)))
-    ∙ omega arith
+pub word-same : (a : ℕ) {s t : List ℕ} {w : ℕ} → s ≡ t → w ≡ wordFrom a t → w ≡ wordFrom a s
+word-same a f e = e ∙ ap (wordFrom a) (sym f)
 
-pub part-lead : (s : List ℕ) (n a : ℕ) → n ≤ length s → wordFrom a (take n s) ≡ a * 256 ^ n + wordFrom 0 (take n s)
-part-lead s n a h = word-lead (take n s) a ∙ ap (λ (m : ℕ). a * 256 ^ m + wordFrom 0 (take n s)) (length-take-le n s h)
+-- a byte put in below what stands above it
+pub or-next : {X : ℕ} (k x b : ℕ) → b < 256 → 8 + k ≤ 64 → X ≡ x * 2 ^ (8 + k) → bitOr X (b * 2 ^ k % 2 ^ 64) ≡ (x * 256 + b) * 2 ^ k
+or-next {X} k x b hb hk e =
+    ap₂ bitOr e (shl-exact 8 k 64 hb hk) ∙ or-shifted x (8 + k) (b * 2 ^ k) (shl-lt 8 k hb)
+    ∙ sym (add-mul (x * 256) b (2 ^ k) ∙ ap (λ (n : ℕ). n + b * 2 ^ k) (mul-assoc x 256 (2 ^ k) ∙ ap (λ (n : ℕ). x * n) (sym (pow-add 2 8 k))))
 
-pub part-join : (s : List ℕ) (at n m a : ℕ) → at + n + m ≤ length s
-    → wordFrom a (take (n + m) (drop at s)) ≡ wordFrom a (take n (drop at s)) * 256 ^ m + wordFrom 0 (take m (drop (at + n) s))
-part-join s at n m a h =
-    let t = take m (drop (at + n) s) in
-    ap (wordFrom a) (take-add n m (drop at s) ∙ ap (λ (l : List ℕ). take n (drop at s) ++ take m l) (drop-drop n at s))
-    ∙ word-append (take n (drop at s)) t a ∙ word-lead t (wordFrom a (take n (drop at s)))
-    ∙ ap (λ (k : ℕ). wordFrom a (take n (drop at s)) * 256 ^ k + wordFrom 0 t) (part-length s (at + n) m h)
+pub or-last : {X : ℕ} (x b : ℕ) → b < 256 → X ≡ x * 256 → bitOr X b ≡ x * 256 + b
+or-last {X} x b hb e = ap (λ (n : ℕ). bitOr n b) e ∙ or-shifted x 8 b hb
 
 -- ---- the CRC of a number's bytes
 

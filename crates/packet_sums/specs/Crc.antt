@@ -6,11 +6,17 @@ use mathlib.Core.Bool.{cond}
 use lib.Bits.{bitXor}
 use lib.Dec.{eqb}
 
--- sixteen bits that have moved up by one; where a 1 fell out at the top, the polynomial is added
-unfoldable pub reduce : ℕ → ℕ → ℕ
-reduce out c = cond (eqb out 0) c (bitXor c 0x1021)
+abbrev pub polynomial : ℕ
+polynomial = 0x1021
 
--- one bit
+abbrev pub start : ℕ
+start = 0x1D0F
+
+-- the polynomial is added where a 1 fell out at the top
+unfoldable pub reduce : ℕ → ℕ → ℕ
+reduce out c = cond (eqb out 0) c (bitXor c polynomial)
+
+-- one bit: the sixteen bits move up by one
 unfoldable pub crcBit : ℕ → ℕ
 crcBit c = reduce (c / 32768 % 2) (c * 2 % 65536)
 
@@ -23,12 +29,13 @@ crcBits (suc n) c = crcBit (crcBits n c)
 unfoldable pub crcByte : ℕ → ℕ → ℕ
 crcByte c b = crcBits 8 (bitXor c (b * 256))
 
+-- the bytes one after the other, from the value c
 unfoldable pub crcFrom : ℕ → List ℕ → ℕ
 crcFrom c [] = c
 crcFrom c (b ∷ bs) = crcFrom (crcByte c b) bs
 
 abbrev pub crcOf : List ℕ → ℕ
-crcOf s = crcFrom 0x1D0F s
+crcOf s = crcFrom start s
 
 -- as it travels: two bytes, the low one first
 unfoldable pub lowFirst : ℕ → List ℕ

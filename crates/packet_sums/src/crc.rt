@@ -1,10 +1,14 @@
 // The CRC, the trailer of most frames. There is no table: the quotient by the polynomial is worked out by shifts, for up to eight
 // bytes at once.
 ghost use mathlib.Core.Path.{_≡_};
+ghost use mathlib.Core.List.{[], _∷_};
 ghost use Prim.Native.Nat.{_+_, _/_, _*_, _%_, _≤_};
 ghost use lib.ListN.{take, drop};
 ghost use Rattle.packet_sums.specs.Crc.{crcByte, crcOf, lowFirst};
 ghost use Rattle.packet_sums.specs.Word.{wordFrom, crcWord};
+
+// The value before the first byte.
+const START: u16 = 0x1D0F;
 
 // One byte more.
 fn crc_byte(crc: u16, b: u8) -> u16
@@ -27,53 +31,64 @@ fn crc_word(z: u64) -> u16
     (((quotient << 12) ^ (quotient << 5) ^ quotient) % 65536) as u16
 }
 
-// Two bytes as a number, the first one higher. The next two functions are alike, for four and eight.
-fn read2(bytes: &[u8], at: usize) -> u64
-    requires { do ⌜ at + 2 ≤ (← ⟦bytes.len()⟧) ⌝ }
-    ensures { λ r. ⌜ r ≡ wordFrom 0 (take 2 (drop at (now (bytes .entry)))) ⌝ }
+// Eight bytes as a number, the first one highest. Written flat, so that it is compiled to a single load where the bytes are neighbours.
+fn word_be(b0: u8, b1: u8, b2: u8, b3: u8, b4: u8, b5: u8, b6: u8, b7: u8) -> u64
+    ensures { λ r. ⌜ r ≡ wordFrom 0 (b0 ∷ b1 ∷ b2 ∷ b3 ∷ b4 ∷ b5 ∷ b6 ∷ b7 ∷ []) ⌝ }
 {
-    (bytes[at] as u64) * 256 + (bytes[at + 1] as u64)
+    ((b0 as u64) << 56)
+        | ((b1 as u64) << 48)
+        | ((b2 as u64) << 40)
+        | ((b3 as u64) << 32)
+        | ((b4 as u64) << 24)
+        | ((b5 as u64) << 16)
+        | ((b6 as u64) << 8)
+        | (b7 as u64)
 }
 
-fn read4(bytes: &[u8], at: usize) -> u64
-    requires { do ⌜ at + 4 ≤ (← ⟦bytes.len()⟧) ⌝ }
-    ensures { λ r. ⌜ r ≡ wordFrom 0 (take 4 (drop at (now (bytes .entry)))) ⌝ }
+// The eight bytes from `i` on, as a number.
+fn word_at(s: &[u8], i: usize) -> u64
+    requires { do ⌜ i + 8 ≤ (← ⟦s.len()⟧) ⌝ }
+    ensures { λ r. ⌜ r ≡ wordFrom 0 (take 8 (drop i (now (s .entry)))) ⌝ }
 {
-    read2(bytes, at) * 0x10000 + read2(bytes, at + 2)
+    word_be(
+        s[i],
+        s[i + 1],
+        s[i + 2],
+        s[i + 3],
+        s[i + 4],
+        s[i + 5],
+        s[i + 6],
+        s[i + 7],
+    )
 }
 
-fn read8(bytes: &[u8], at: usize) -> u64
-    requires { do ⌜ at + 8 ≤ (← ⟦bytes.len()⟧) ⌝ }
-    ensures { λ r. ⌜ r ≡ wordFrom 0 (take 8 (drop at (now (bytes .entry)))) ⌝ }
+// What stands before the words of eight, but for an odd byte: none, two, four or six bytes behind FF FF. The start comes from these
+// two, since 1D0F is their CRC from 0.
+fn head_word(s: &[u8]) -> u64
+    ensures { λ r. do ⌜ r ≡ wordFrom 0xFFFF (take ((← ⟦s.len()⟧ .entry) % 8 / 2 * 2) (now (s .entry))) ⌝ }
 {
-    read4(bytes, at) * 0x1_0000_0000 + read4(bytes, at + 4)
-}
-
-// What stands before the words of eight, but for an odd byte: none, two, four or six bytes behind FFFF, from which the CRC's start
-// comes, since 1D0F is the CRC of these two bytes from 0.
-fn head_word(bytes: &[u8]) -> u64
-    ensures { λ r. do ⌜ r ≡ wordFrom 0xFFFF (take ((← ⟦bytes.len()⟧ .entry) % 8 / 2 * 2) (now (bytes .entry))) ⌝ }
-{
-    let short = bytes.len() % 8;
+    let short = s.len() % 8;
     if short < 2 {
         return 0xFFFF;
     }
     if short < 4 {
-        return 0xFFFF_0000 + read2(bytes, 0);
+        return word_be(0, 0, 0, 0, 0xFF, 0xFF, s[0], s[1]);
     }
-    let four = 0xFFFF_0000_0000 + read4(bytes, 0);
     if short < 6 {
-        return four;
+        return word_be(0, 0, 0xFF, 0xFF, s[0], s[1], s[2], s[3]);
     }
-    four * 0x10000 + read2(bytes, 4)
+    word_be(0xFF, 0xFF, s[0], s[1], s[2], s[3], s[4], s[5])
 }
 
 // The CRC of the bytes that stand before the words of eight.
 fn crc_head(bytes: &[u8]) -> u16
     ensures { λ r. do ⌜ r ≡ crcOf (take ((← ⟦bytes.len()⟧ .entry) % 8) (now (bytes .entry))) ⌝ }
 {
-    let even = crc_word(head_word(bytes));
     let short = bytes.len() % 8;
+    if short == 0 {
+        return START;
+    }
+    let even = crc_word(head_word(bytes));
     if short % 2 == 0 {
         return even;
     }
@@ -87,7 +102,7 @@ pub fn crc16(bytes: &[u8]) -> u16
     let mut crc = crc_head(bytes);
     let mut i = bytes.len() % 8;
     while i < bytes.len() {
-        crc = crc_word(((crc as u64) << 48) ^ read8(bytes, i));
+        crc = crc_word(((crc as u64) << 48) ^ word_at(bytes, i));
         i += 8;
     }
     crc

@@ -9,7 +9,7 @@ use lib.Bits.{bitXor}
 use lib.ListN.{length, take, drop, drop-of-length-le}
 use lib.Seq.{drop-drop}
 use Rattle.laws.proofs.ByteLists.{bytes-take, bytes-drop}
-use Rattle.packet_sums.specs.Crc.{crcFrom, crcOf}
+use Rattle.packet_sums.specs.Crc.{start, crcFrom, crcOf}
 use Rattle.packet_sums.specs.Word.{crcWord}
 use Rattle.packet_sums.proofs.CrcLaws.{crc-nil, crc-cut}
 use Rattle.packet_sums.proofs.WordLaws.{part-length}
@@ -27,7 +27,7 @@ abbrev μ-loop : tie.MeasureT-loop
 loop-holds : tie.Need-loop-holds Inv-loop μ-loop
 loop-holds c =
     let s = c .before .before .args .bytes .now in
-    (omega arith, omega arith, omega arith, ap (λ (v : ℕ). crcFrom v (drop (length s % 8) s)) (c .crc-head .ensures) ∙ crc-cut s 0x1D0F (length s % 8))
+    (omega arith, omega arith, omega arith, ap (λ (v : ℕ). crcFrom v (drop (length s % 8) s)) (c .crc-head .ensures) ∙ crc-cut s start (length s % 8))
 
 loop-again : tie.Need-loop-again Inv-loop μ-loop
 loop-again c =
@@ -37,7 +37,7 @@ loop-again c =
     let t = take 8 (drop (l .i) s) in
     let fits : l .i + 8 ≤ length s = omega arith in
     let e : c .crc-word .result ≡ crcFrom (l .crc) t =
-    c .crc-word .ensures ∙ ap (λ (w : ℕ). crcWord 8 (bitXor (l .crc * 2 ^ 48 % 2 ^ 64) w)) (c .before .read8 .ensures)
+    c .crc-word .ensures ∙ ap (λ (w : ℕ). crcWord 8 (bitXor (l .crc * 2 ^ 48 % 2 ^ 64) w)) (c .before .word-at .ensures)
     ∙ word-step (l .crc) t (omega arith) (bytes-take 8 (drop (l .i) s) (bytes-drop (l .i) s (λ i. b .shared-slice-known .given i .fits))) (part-length s (l .i) 8 fits) in (
       omega arith,
       omega arith,

@@ -9,9 +9,9 @@ use lib.ListN.{length, take, getD}
 use lib.Seq.{length-take-le}
 use Rattle.laws.specs.Bytes.{Bytes}
 use Rattle.laws.proofs.ByteLists.{bytes-take}
-use Rattle.packet_sums.specs.Crc.{crcByte, crcOf}
+use Rattle.packet_sums.specs.Crc.{start, crcByte, crcOf}
 use Rattle.packet_sums.specs.Word.{wordFrom, crcWord}
-use Rattle.packet_sums.proofs.CrcLaws.{crc-take}
+use Rattle.packet_sums.proofs.CrcLaws.{crc-nil, crc-take}
 use Rattle.packet_sums.proofs.Step.{word-start}
 use Rattle.packet_sums.proofs.crc.crc_head.Statement.{statement}
 use Rattle.packet_sums.proofs.crc.crc_head.Tie as tie
@@ -25,34 +25,42 @@ even s w r h e f =
 
 returns : tie.Need-returns
 returns c =
-    let s = c .before .before .before .before .args .bytes .now in
-    let known : Bytes s = λ i. c .before .before .before .shared-slice-known .given i .fits in
-    let e : length s % 8 / 2 * 2 ≡ length s % 8 = omega arith in
-    even s (c .before .before .head-word .result) (c .before .crc-word .result) known (c .before .before .head-word .ensures) (c .before .crc-word .ensures)
-    ∙ ap (λ (k : ℕ). crcOf (take k s)) e
+    let s = c .before .before .args .bytes .now in
+    let e : 0 ≡ length s % 8 = omega arith in
+    sym (crc-nil start) ∙ ap (λ (k : ℕ). crcOf (take k s)) e
 
 returns-2 : tie.Need-returns-2
 returns-2 c =
-    let b = c .before .before .before .before in
-    let s = b .before .before .args .bytes .now in
-    let known : Bytes s = λ i. b .before .shared-slice-known .given i .fits in
+    let b = c .before .before in
+    let s = b .before .before .before .args .bytes .now in
+    let known : Bytes s = λ i. b .before .before .shared-slice-known .given i .fits in
+    let e : length s % 8 / 2 * 2 ≡ length s % 8 = omega arith in
+    even s (b .head-word .result) (c .before .crc-word .result) known (b .head-word .ensures) (c .before .crc-word .ensures)
+    ∙ ap (λ (k : ℕ). crcOf (take k s)) e
+
+returns-3 : tie.Need-returns-3
+returns-3 c =
+    let d = c .before .before .before in
+    let b = d .before in
+    let s = b .before .before .before .args .bytes .now in
+    let known : Bytes s = λ i. b .before .before .shared-slice-known .given i .fits in
     let k = length s % 8 / 2 * 2 in
     let e : length s % 8 ≡ suc k = omega arith in
     let f : length s % 8 - 1 ≡ k = omega arith in
     c .crc-byte .ensures
     ∙ ap₂ (λ (v i : ℕ). crcByte v (getD s i 0))
-    (even s (b .head-word .result) (c .before .before .before .crc-word .result) known (b .head-word .ensures) (c .before .before .before .crc-word .ensures))
-    f
-    ∙ sym (ap (λ (n : ℕ). crcOf (take n s)) e ∙ crc-take s 0x1D0F k (omega arith))
+    (even s (b .head-word .result) (d .crc-word .result) known (b .head-word .ensures) (d .crc-word .ensures)) f
+    ∙ sym (ap (λ (n : ℕ). crcOf (take n s)) e ∙ crc-take s start k (omega arith))
 
 pub crc-head-spec : {M : Type 1} → statement M
 crc-head-spec =
     tie.close
     (tie.spec
-    (λ c κs. search needs)
-    (λ c κs. search needs)
     returns
+    (λ c κs. search needs)
+    (λ c κs. search needs)
+    returns-2
     (λ c. search needs)
     (λ c. search needs)
     (λ c κs. search needs)
-    returns-2)
+    returns-3)
