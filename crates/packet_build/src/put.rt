@@ -11,7 +11,7 @@ use super::codec::GivenMac;
 use super::codec::PacketBuilder;
 
 // Copies src into out from at on, and answers the place after it.
-pub(crate) fn copy_in(out: &mut [u8], at: usize, src: &[u8]) -> usize
+fn copy_in(out: &mut [u8], at: usize, src: &[u8]) -> usize
     requires { ⌜ at + length (now src) ≤ length (now out) ⌝ }
     ensures { λ r. ⌜ r ≡ at + length (now (src .entry)) ⌝ }
     ensures { λ _. ⌜ now (out .exit) ≡ write (now (out .entry)) at (now (src .entry)) ⌝ }
@@ -25,7 +25,7 @@ pub(crate) fn copy_in(out: &mut [u8], at: usize, src: &[u8]) -> usize
 }
 
 // The block at 5, if there is one; the place after it.
-pub(crate) fn put_block(out: &mut [u8], block: BuildBlock, bytes: &[u8]) -> usize
+fn put_block(out: &mut [u8], block: BuildBlock, bytes: &[u8]) -> usize
     requires { ⌜ (blockN (blockOf block (now bytes)) ≤ 253) × (5 + length (blockBytes (blockOf block (now bytes))) ≤ length (now out)) ⌝ }
     ensures { λ r. ⌜ r ≡ 5 + length (blockBytes (blockOf block (now (bytes .entry)))) ⌝ }
     ensures { λ _. ⌜ now (out .exit) ≡ write (now (out .entry)) 5 (blockBytes (blockOf block (now (bytes .entry)))) ⌝ }
