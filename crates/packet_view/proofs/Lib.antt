@@ -1,0 +1,7 @@
+pub mod PartLaws
+pub mod Thin
+pub mod Copied
+pub mod Door
+pub mod ShownLaws
+pub mod MacDue
+pub mod Settled

@@ -1,0 +1,27 @@
+-- `packet_view::block_data_in` meets its contract, by `Door.antt`'s one walk. Assumes nothing.
+use contract.Running.{givenOf, tables, tablesOf}
+use denote.Triple.Spec.{tripleOf}
+use denote.Triple.Table.{entered, cited}
+use Rattle.packet_view.specs.View.{blockDataOf}
+use Rattle.packet_view.proofs.Thin.{blockAt, blockLen}
+use Rattle.packet_view.proofs.Door.{New, Next, door-meets}
+use Rattle.packet_view.proofs.ShownLaws.{block-data-shown}
+use Rattle.packet_view.proofs.view.PacketView.parse.Symbol as parse-def
+use Rattle.packet_view.proofs.view.PacketView.parse.Symbol.{name as #parse}
+use Rattle.packet_view.proofs.view.PacketView.parse.Met as parse-thm
+use Rattle.packet_view.proofs.view.PacketView.block_data.Symbol as method-def
+use Rattle.packet_view.proofs.view.PacketView.block_data.Symbol.{name as #method}
+use Rattle.packet_view.proofs.view.PacketView.block_data.Met as method-thm
+use Rattle.packet_view.proofs.view.block_data_in.Key.{name as #self}
+use Rattle.packet_view.proofs.view.block_data_in as self
+use Rattle.packet_view.proofs.view.block_data_in.Statement as stated
+use Rattle.packet_view.proofs.view.block_data_in.Code as code
+
+pub block-data-in-spec : {M : Type 1} → stated.statement M
+unfolding code.routine tablesOf
+block-data-in-spec 𝓤 H 𝓜 𝓖 𝓡 =
+    entered 𝓤 H (tripleOf 𝓤 H (𝓖 .A) self.signature (self.spec 𝓤 H (𝓖 .A) (𝓜 .mem) (𝓡 .run)))
+    (tables 𝓤 H 𝓜 𝓡 code.env .C) (tables 𝓤 H 𝓜 𝓡 code.env .Λ) #self code.function (code.unfolded 𝓤 H 𝓜 𝓡)
+    (door-meets blockDataOf blockAt blockLen #method block-data-shown 𝓤 H (𝓖 .A) (givenOf 𝓤 H 𝓜 𝓖) (𝓜 .mem) (𝓡 .run) (tablesOf 𝓤 H 𝓜 (tables 𝓤 H 𝓜 𝓡 code.env))
+    (cited 𝓤 H (New 𝓤 H (𝓖 .A) (𝓜 .mem) (𝓡 .run)) 𝓜 𝓡 code.env #parse parse-def.routine code.calls-packet-view·view·PacketView·parse (parse-thm.met 𝓤 H 𝓜 𝓖 𝓡))
+    (cited 𝓤 H (Next blockAt blockLen 𝓤 H (𝓖 .A)) 𝓜 𝓡 code.env #method method-def.routine code.calls-packet-view·view·PacketView·block-data (method-thm.met 𝓤 H 𝓜 𝓖 𝓡)))

@@ -1,0 +1,146 @@
+-- The view of a frame (docs/RULES.md, 3.5): what it tells, and the three parts of the caller's bytes that it shows.
+-- Assumes nothing.
+use Prim.Native.Nat.{ℕ, _+_}
+use mathlib.Core.Bool.{false, cond}
+use mathlib.Core.List.{List, []}
+use lib.Dec.{leb}
+use lib.ListN.{length, take, drop}
+use denote.Ref.{RefT}
+use Rattle.laws.specs.Answer.{Answer, Answer.given, Answer.refused}
+use Rattle.refusal.specs.Paper.{refusalOf}
+use Rattle.packet_head.specs.Header.{Control, control}
+use Rattle.packet_head.specs.Block.{typeOf}
+use Rattle.packet_head.specs.Trailer.{Tail, Tail.checksum, tail}
+use Rattle.packet_parse.specs.Frame.{Fields, BlockAt, BlockAt.noBlock, BlockAt.blockAt, MacAt, MacAt.noMac, MacAt.macFrom, parseOf}
+use Rattle.packet_view.specs.declared.parts.Outcome.{Outcome}
+use Rattle.packet_view.specs.declared.parts.BlockKind.{BlockKind}
+use Rattle.packet_view.specs.declared.parts.Places.{Places}
+use Rattle.packet_view.specs.declared.view.PacketView.{PacketView}
+
+-- ---- a part: its place, counted from the frame's first byte, and its length
+
+abbrev pub Part : Type 0
+Part = ℕ × ℕ
+
+-- the bytes of s there, or none where they run past its end
+unfoldable pub partOf : List ℕ → ℕ → ℕ → List ℕ
+partOf s at len = cond (leb (at + len) (length s)) (take len (drop at s)) []
+
+-- where an accepted frame has its parts; without a block or a MAC, nowhere
+abbrev pub blockIn : BlockAt → Part
+blockIn noBlock = (0, 0)
+blockIn (blockAt ty start len) = (start, len)
+
+abbrev pub dataIn : Fields → Part
+dataIn F = (F .dataStart, F .dataLen)
+
+abbrev pub macIn : MacAt → Part
+macIn noMac = (0, 0)
+macIn (macFrom at) = (at, 4)
+
+-- ---- what a view tells
+
+-- the block's type, 0 without a block
+abbrev pub typeIn : BlockAt → ℕ
+typeIn noBlock = 0
+typeIn (blockAt ty start len) = ty
+
+pub record Shown : Type 0 where
+  pub outcome : Answer (Unit {0})
+  pub addr : ℕ
+  pub ctrl : Control
+  pub type : ℕ
+  pub code : ℕ
+  pub trailer : Tail
+  pub len : ℕ
+  pub block : Part
+  pub payload : Part
+  pub mac : Part
+
+-- of an accepted frame its fields; after a refusal nothing else, and the parts are empty
+unfoldable pub placesOf : Answer Fields → Shown
+placesOf (given F) =
+    record {
+      outcome = given tt;
+      addr = F .addr;
+      ctrl = F .ctrl;
+      type = typeIn (F .block);
+      code = F .code;
+      trailer = F .trailer;
+      len = F .len;
+      block = blockIn (F .block);
+      payload = dataIn F;
+      mac = macIn (F .mac);
+    }
+placesOf (refused n vs) =
+    record {
+      outcome = refused n vs;
+      addr = 0;
+      ctrl = (0, false, false);
+      type = 0;
+      code = 0;
+      trailer = checksum 0;
+      len = 0;
+      block = (0, 0);
+      payload = (0, 0);
+      mac = (0, 0);
+    }
+
+-- ---- the three parts, of the frame at the start of s
+
+-- the bytes of an accepted frame at p; after a refusal none
+abbrev pub bytesAt : List ℕ → (Fields → Part) → Answer Fields → List ℕ
+bytesAt s p (given F) = take (p F .1) (drop (p F .0) s)
+bytesAt s p (refused n vs) = []
+
+unfoldable pub blockDataOf : List ℕ → List ℕ
+blockDataOf s = bytesAt s (λ F. blockIn (F .block)) (parseOf s)
+
+unfoldable pub payloadOf : List ℕ → List ℕ
+payloadOf s = bytesAt s dataIn (parseOf s)
+
+unfoldable pub macOf : List ℕ → List ℕ
+macOf s = bytesAt s (λ F. macIn (F .mac)) (parseOf s)
+
+-- ---- the code's kinds, as the paper has them
+
+abbrev pub outcomeOf : Outcome → Answer (Unit {0})
+outcomeOf Outcome.Accepted = given tt
+outcomeOf (Outcome.Refused e) = refusalOf e
+
+abbrev pub kindOf : BlockKind → ℕ
+kindOf BlockKind.Absent = 0
+kindOf (BlockKind.Present ty) = typeOf ty
+
+abbrev pub shown : Places → Shown
+shown p =
+    record {
+      outcome = outcomeOf (p .outcome);
+      addr = p .addr .0;
+      ctrl = control (p .ctrl);
+      type = kindOf (p .block);
+      code = p .code;
+      trailer = tail (p .trailer);
+      len = p .len;
+      block = (p .«block_at», p .«block_len»);
+      payload = (p .«data_at», p .«data_len»);
+      mac = (p .«mac_at», p .«mac_len»);
+    }
+
+-- a view's frame, and what it tells
+abbrev pub viewed : PacketView → RefT (List ℕ) × Shown
+viewed v = (
+  v .frame,
+  record {
+    outcome = outcomeOf (v .outcome);
+    addr = v .addr .0;
+    ctrl = control (v .ctrl);
+    type = kindOf (v .block);
+    code = v .code;
+    trailer = tail (v .trailer);
+    len = v .len;
+    block = (v .«block_at», v .«block_len»);
+    payload = (v .«data_at», v .«data_len»);
+    mac = (v .«mac_at», v .«mac_len»);
+  },
+)
