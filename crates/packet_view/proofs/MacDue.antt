@@ -7,7 +7,7 @@ use Prim.Native.Nat.{ℕ, _+_, _≤_, _<_}
 use borrow.Author.Tests.{le-leb, lt-leb, leb-true}
 use lib.Dec.{leb}
 use lib.ListN.{length, getD, take, drop}
-use Rattle.laws.specs.Answer.{Answer, Answer.given}
+use Rattle.laws.specs.Answer.{Answer.given}
 use Rattle.laws.proofs.Answers.{Holds, holds-refuse, holds-choose, holds-then, holds-given}
 use Rattle.packet_head.specs.Header.{Control}
 use Rattle.packet_head.specs.Block.{BlockRead, hasMac, scsOf, scbOf}

@@ -2,15 +2,13 @@
 -- The places of an accepted frame lie inside it (`accepted-inside`), so a part never falls back to the empty one.
 -- Assumes nothing.
 use mathlib.Core.Path.{_≡_, refl, ap, _∙_}
-use mathlib.Core.Bool.{Bool, true, false}
 use mathlib.Core.List.{List, []}
-use Prim.Native.Nat.{ℕ, _+_, _-_, _≤_, _<_}
+use Prim.Native.Nat.{ℕ, _+_, _≤_}
 use native.Mathlib.Omega.{arith}
-use borrow.Author.Tests.{le-leb, lt-leb}
 use lib.ListN.{length, take, drop, length-take, length-drop}
 use denote.Ref.{RefT, now}
 use Rattle.laws.specs.Answer.{Answer, Answer.given, Answer.refused}
-use Rattle.laws.proofs.Answers.{Holds, holds-given}
+use Rattle.laws.proofs.Answers.{Holds}
 use Rattle.packet_parse.specs.Frame.{Fields, BlockAt, BlockAt.noBlock, BlockAt.blockAt, MacAt, MacAt.noMac, MacAt.macFrom, parseOf}
 use Rattle.packet_parse.proofs.Within.{Inside, BlockInside, MacInside, parse-inside, accepted-inside}
 use Rattle.packet_view.specs.View.{Part, Shown, placesOf, viewed, partOf, bytesAt, blockIn, dataIn, macIn, blockDataOf, payloadOf, macOf}

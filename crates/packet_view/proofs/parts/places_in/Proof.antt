@@ -1,6 +1,6 @@
 -- Reading's answer, by its arm, is that of `parseOf`, and the callee answers its places.
 -- Assumes nothing.
-use mathlib.Core.Path.{_≡_, sym, ap, _∙_}
+use mathlib.Core.Path.{sym, ap, _∙_}
 use Rattle.packet_parse.specs.Frame.{parsed}
 use Rattle.packet_view.specs.View.{placesOf}
 use borrow.Author.Needs.{needs}
