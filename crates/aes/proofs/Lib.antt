@@ -1,5 +1,6 @@
 mod Rounds
 mod Steps
+mod Halves
 pub mod Inverse
 pub mod Laws
 pub mod Expansion
