@@ -4,3 +4,4 @@ mod Halves
 pub mod Inverse
 pub mod Laws
 pub mod Expansion
+pub mod Known

@@ -3,7 +3,6 @@
 use mathlib.Core.Path.{_≡_, refl, sym, ap, ap₂, _∙_}
 use mathlib.Core.List.{List, [], _∷_, _++_}
 use Prim.Native.Nat.{ℕ, _+_, _-_, _*_, _/_, _%_, _^_, _≤_}
-use native.Mathlib.Nat.{le-antisymm}
 use native.Mathlib.Numerals.{add-one}
 use native.Mathlib.Omega.{arith}
 use borrow.Author.Needs.{needs}
@@ -40,7 +39,7 @@ unfolding cipher
 returns c =
     let l = c .before .before .before .before in
     let a = l .before .before .before .args in
-    let nine : l .loop .r ≡ 9 = le-antisymm (l .loop .inv .0) (c .before .before .before .loop-test .left) in
+    let nine : l .loop .r ≡ 9 = omega (arith, c .before .before .before .loop-test .left) in
     let begin : unpacked 8 (l .before .before .first .result) ++ unpacked 8 (l .before .second .result) ≡ addRoundKey (a .block) (a .w .now) 0 =
     ap₂ _++_ (l .before .before .first .ensures) (l .before .second .ensures) ∙ add-halves (a .t .now) (a .w .now) 0 (a .block) in
     c .joined .ensures
