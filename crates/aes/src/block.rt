@@ -9,28 +9,34 @@ ghost use Rattle.aes.specs.Cipher.{cipher, invCipher, E, D};
 pub fn encrypt_with(w: &[u8; 176], t: &[u8; 256], block: [u8; 16]) -> [u8; 16]
     ensures { λ r. ⌜ r ≡ cipher (now (t .entry)) (now (w .entry)) block ⌝ }
 {
-    let mut s = round::add_round_key(block, w, 0);
+    let mut x = round::first(block, w, 0);
+    let mut y = round::second(block, w, 8);
     for r in 0..9 {
-        let m = round::mix_columns(round::substitute(t, s));
-        let u = round::add_round_key(m, w, r + 1);
-        s = u;
+        let at = 16 * (r + 1);
+        let a = round::round(t, w, at, x, y);
+        let b = round::round(t, w, at + 8, y, x);
+        x = a;
+        y = b;
     }
-    round::add_round_key(round::substitute(t, s), w, 10)
+    round::joined(round::last(t, w, 160, x, y), round::last(t, w, 168, y, x))
 }
 
 // Deciphers a block over an expanded key schedule; `t` is the inverse table.
 pub fn decrypt_with(w: &[u8; 176], t: &[u8; 256], block: [u8; 16]) -> [u8; 16]
     ensures { λ r. ⌜ r ≡ invCipher (now (t .entry)) (now (w .entry)) block ⌝ }
 {
-    let mut s = round::add_round_key(block, w, 10);
+    let mut x = round::first(block, w, 160);
+    let mut y = round::second(block, w, 168);
     let mut r = 9;
     while 0 < r {
-        let m = round::add_round_key(round::unsubstitute(t, s), w, r);
-        let u = round::unmix_columns(m);
-        s = u;
+        let at = 16 * r;
+        let a = round::unround(t, w, at, x, y);
+        let b = round::unround(t, w, at + 8, y, x);
+        x = a;
+        y = b;
         r -= 1;
     }
-    round::add_round_key(round::unsubstitute(t, s), w, 0)
+    round::joined(round::unlast(t, w, 0, x, y), round::unlast(t, w, 8, y, x))
 }
 
 // One block under a key.

@@ -1,119 +1,145 @@
-// The steps of a round, on a block whose byte r + 4 c is row r, column c. The tables and the key schedule are lent.
+// The steps of a round. A half of the state, two of its columns, stands in one number of 64 bits, the first byte lowest; each
+// step makes the half that its first number is, from both. The tables and the key schedule are lent.
 use aes_field::field;
 ghost use mathlib.Core.Path.{_≡_};
-ghost use Prim.Native.Nat.{_<_};
+ghost use mathlib.Core.List.{_++_};
+ghost use Prim.Native.Nat.{_≤_, _%_};
 ghost use lib.ListN.{getD};
-ghost use Rattle.aes.specs.State.{subBytes, shiftRows, invShiftRows, mixColumns, invMixColumns, addRoundKey};
+ghost use Rattle.laws.specs.Bytes.{xorl};
+ghost use Rattle.aes_field.specs.Field.{_⊕_, _•_};
+ghost use Rattle.aes_field.specs.Packed.{unpacked, columns};
+ghost use Rattle.aes.specs.Halves.{forth, back, part};
 
-// The byte that a table puts in the place of `a`.
-pub fn sub(t: &[u8; 256], a: u8) -> u8
-    ensures { λ r. ⌜ r ≡ getD (now (t .entry)) a 0 ⌝ }
+// The byte that a table puts in the place of the lowest byte of x.
+fn sub(t: &[u8; 256], x: u64) -> u8
+    ensures { λ r. ⌜ r ≡ getD (now (t .entry)) (x % 256) 0 ⌝ }
 {
-    t[a as usize]
+    t[(x & 255) as usize]
 }
 
 // SubBytes and ShiftRows.
-pub fn substitute(t: &[u8; 256], s: [u8; 16]) -> [u8; 16]
-    ensures { λ r. ⌜ r ≡ shiftRows (subBytes (now (t .entry)) s) ⌝ }
+fn substitute(t: &[u8; 256], x: u64, y: u64) -> u64
+    ensures { λ r. ⌜ unpacked 8 r ≡ forth (now (t .entry)) (unpacked 8 x) (unpacked 8 y) ⌝ }
 {
-    [
-        sub(t, s[0]),
-        sub(t, s[5]),
-        sub(t, s[10]),
-        sub(t, s[15]),
-        sub(t, s[4]),
-        sub(t, s[9]),
-        sub(t, s[14]),
-        sub(t, s[3]),
-        sub(t, s[8]),
-        sub(t, s[13]),
-        sub(t, s[2]),
-        sub(t, s[7]),
-        sub(t, s[12]),
-        sub(t, s[1]),
-        sub(t, s[6]),
-        sub(t, s[11]),
-    ]
+    field::pack(
+        sub(t, x),
+        sub(t, x >> 40),
+        sub(t, y >> 16),
+        sub(t, y >> 56),
+        sub(t, x >> 32),
+        sub(t, y >> 8),
+        sub(t, y >> 48),
+        sub(t, x >> 24),
+    )
 }
 
 // InvShiftRows and InvSubBytes, with the inverse table.
-pub fn unsubstitute(t: &[u8; 256], s: [u8; 16]) -> [u8; 16]
-    ensures { λ r. ⌜ r ≡ subBytes (now (t .entry)) (invShiftRows s) ⌝ }
+fn unsubstitute(t: &[u8; 256], x: u64, y: u64) -> u64
+    ensures { λ r. ⌜ unpacked 8 r ≡ back (now (t .entry)) (unpacked 8 x) (unpacked 8 y) ⌝ }
 {
-    [
-        sub(t, s[0]),
-        sub(t, s[13]),
-        sub(t, s[10]),
-        sub(t, s[7]),
-        sub(t, s[4]),
-        sub(t, s[1]),
-        sub(t, s[14]),
-        sub(t, s[11]),
-        sub(t, s[8]),
-        sub(t, s[5]),
-        sub(t, s[2]),
-        sub(t, s[15]),
-        sub(t, s[12]),
-        sub(t, s[9]),
-        sub(t, s[6]),
-        sub(t, s[3]),
-    ]
+    field::pack(
+        sub(t, x),
+        sub(t, y >> 40),
+        sub(t, y >> 16),
+        sub(t, x >> 56),
+        sub(t, x >> 32),
+        sub(t, x >> 8),
+        sub(t, y >> 48),
+        sub(t, y >> 24),
+    )
 }
 
-pub fn mix_columns(s: [u8; 16]) -> [u8; 16]
-    ensures { λ r. ⌜ r ≡ mixColumns s ⌝ }
+// Eight bytes of the key schedule, from `at` on.
+fn key(w: &[u8; 176], at: usize) -> u64
+    requires { ⌜ at ≤ 168 ⌝ }
+    ensures { λ r. ⌜ unpacked 8 r ≡ part (now (w .entry)) at ⌝ }
 {
-    [
-        field::mix(s[0], s[1], s[2], s[3]),
-        field::mix(s[1], s[2], s[3], s[0]),
-        field::mix(s[2], s[3], s[0], s[1]),
-        field::mix(s[3], s[0], s[1], s[2]),
-        field::mix(s[4], s[5], s[6], s[7]),
-        field::mix(s[5], s[6], s[7], s[4]),
-        field::mix(s[6], s[7], s[4], s[5]),
-        field::mix(s[7], s[4], s[5], s[6]),
-        field::mix(s[8], s[9], s[10], s[11]),
-        field::mix(s[9], s[10], s[11], s[8]),
-        field::mix(s[10], s[11], s[8], s[9]),
-        field::mix(s[11], s[8], s[9], s[10]),
-        field::mix(s[12], s[13], s[14], s[15]),
-        field::mix(s[13], s[14], s[15], s[12]),
-        field::mix(s[14], s[15], s[12], s[13]),
-        field::mix(s[15], s[12], s[13], s[14]),
-    ]
+    field::pack(
+        w[at],
+        w[at + 1],
+        w[at + 2],
+        w[at + 3],
+        w[at + 4],
+        w[at + 5],
+        w[at + 6],
+        w[at + 7],
+    )
 }
 
-pub fn unmix_columns(s: [u8; 16]) -> [u8; 16]
-    ensures { λ r. ⌜ r ≡ invMixColumns s ⌝ }
+// The first half of a block, and a round key added.
+pub fn first(s: [u8; 16], w: &[u8; 176], at: usize) -> u64
+    requires { ⌜ at ≤ 160 ⌝ }
+    ensures { λ r. ⌜ unpacked 8 r ≡ xorl (part s 0) (part (now (w .entry)) at) ⌝ }
 {
-    [
-        field::unmix(s[0], s[1], s[2], s[3]),
-        field::unmix(s[1], s[2], s[3], s[0]),
-        field::unmix(s[2], s[3], s[0], s[1]),
-        field::unmix(s[3], s[0], s[1], s[2]),
-        field::unmix(s[4], s[5], s[6], s[7]),
-        field::unmix(s[5], s[6], s[7], s[4]),
-        field::unmix(s[6], s[7], s[4], s[5]),
-        field::unmix(s[7], s[4], s[5], s[6]),
-        field::unmix(s[8], s[9], s[10], s[11]),
-        field::unmix(s[9], s[10], s[11], s[8]),
-        field::unmix(s[10], s[11], s[8], s[9]),
-        field::unmix(s[11], s[8], s[9], s[10]),
-        field::unmix(s[12], s[13], s[14], s[15]),
-        field::unmix(s[13], s[14], s[15], s[12]),
-        field::unmix(s[14], s[15], s[12], s[13]),
-        field::unmix(s[15], s[12], s[13], s[14]),
-    ]
+    field::pack(s[0], s[1], s[2], s[3], s[4], s[5], s[6], s[7]) ^ key(w, at)
 }
 
-pub fn add_round_key(s: [u8; 16], w: &[u8; 176], r: usize) -> [u8; 16]
-    requires { ⌜ r < 11 ⌝ }
-    ensures { λ x. ⌜ x ≡ addRoundKey s (now (w .entry)) r ⌝ }
+// The second half.
+pub fn second(s: [u8; 16], w: &[u8; 176], at: usize) -> u64
+    requires { ⌜ at ≤ 168 ⌝ }
+    ensures { λ r. ⌜ unpacked 8 r ≡ xorl (part s 8) (part (now (w .entry)) at) ⌝ }
 {
-    let at = 16 * r;
-    let mut out = [0u8; 16];
-    for i in 0..16 {
-        out[i] = s[i] ^ w[at + i];
-    }
-    out
+    field::pack(s[8], s[9], s[10], s[11], s[12], s[13], s[14], s[15]) ^ key(w, at)
+}
+
+// A round of Cipher, with the half of its round key from `at` on.
+pub fn round(t: &[u8; 256], w: &[u8; 176], at: usize, x: u64, y: u64) -> u64
+    requires { ⌜ at ≤ 168 ⌝ }
+    ensures { λ r. ⌜ unpacked 8 r ≡ xorl (columns (λ a b c d. 2 • a ⊕ 3 • b ⊕ c ⊕ d) (forth (now (t .entry)) (unpacked 8 x) (unpacked 8 y))) (part (now (w .entry)) at) ⌝ }
+{
+    field::mix(substitute(t, x, y)) ^ key(w, at)
+}
+
+// The last round, which mixes no columns.
+pub fn last(t: &[u8; 256], w: &[u8; 176], at: usize, x: u64, y: u64) -> u64
+    requires { ⌜ at ≤ 168 ⌝ }
+    ensures { λ r. ⌜ unpacked 8 r ≡ xorl (forth (now (t .entry)) (unpacked 8 x) (unpacked 8 y)) (part (now (w .entry)) at) ⌝ }
+{
+    substitute(t, x, y) ^ key(w, at)
+}
+
+// A round of InvCipher.
+pub fn unround(t: &[u8; 256], w: &[u8; 176], at: usize, x: u64, y: u64) -> u64
+    requires { ⌜ at ≤ 168 ⌝ }
+    ensures { λ r. ⌜ unpacked 8 r ≡ columns (λ a b c d. 14 • a ⊕ 11 • b ⊕ 13 • c ⊕ 9 • d) (xorl (back (now (t .entry)) (unpacked 8 x) (unpacked 8 y)) (part (now (w .entry)) at)) ⌝ }
+{
+    field::unmix(unsubstitute(t, x, y) ^ key(w, at))
+}
+
+// Its last round.
+pub fn unlast(t: &[u8; 256], w: &[u8; 176], at: usize, x: u64, y: u64) -> u64
+    requires { ⌜ at ≤ 168 ⌝ }
+    ensures { λ r. ⌜ unpacked 8 r ≡ xorl (back (now (t .entry)) (unpacked 8 x) (unpacked 8 y)) (part (now (w .entry)) at) ⌝ }
+{
+    unsubstitute(t, x, y) ^ key(w, at)
+}
+
+fn low(x: u64) -> u8
+    ensures { λ r. ⌜ r ≡ x % 256 ⌝ }
+{
+    (x & 255) as u8
+}
+
+// The block that two halves are.
+pub fn joined(x: u64, y: u64) -> [u8; 16]
+    ensures { λ r. ⌜ r ≡ unpacked 8 x ++ unpacked 8 y ⌝ }
+{
+    [
+        low(x),
+        low(x >> 8),
+        low(x >> 16),
+        low(x >> 24),
+        low(x >> 32),
+        low(x >> 40),
+        low(x >> 48),
+        low(x >> 56),
+        low(y),
+        low(y >> 8),
+        low(y >> 16),
+        low(y >> 24),
+        low(y >> 32),
+        low(y >> 40),
+        low(y >> 48),
+        low(y >> 56),
+    ]
 }

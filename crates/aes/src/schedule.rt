@@ -1,21 +1,27 @@
 // The key schedule, FIPS 197, 5.2: 44 words of four bytes, made a round key at a time.
-use crate::round;
 use aes_field::field;
 ghost use mathlib.Core.Path.{_≡_};
 ghost use Prim.Native.Nat.{_≤_};
-ghost use lib.ListN.{length};
+ghost use lib.ListN.{length, getD};
 ghost use lib.Seq.{paste};
 ghost use Rattle.aes.specs.KeyExpansion.{keyExpansion};
 ghost use Rattle.aes.specs.RoundKey.{nextKey};
+
+// The byte that a table puts in the place of `a`.
+fn sub(t: &[u8; 256], a: u8) -> u8
+    ensures { λ r. ⌜ r ≡ getD (now (t .entry)) a 0 ⌝ }
+{
+    t[a as usize]
+}
 
 // The round key after k, where c is the round's constant.
 fn next(t: &[u8; 256], k: [u8; 16], c: u8) -> [u8; 16]
     ensures { λ r. ⌜ r ≡ nextKey (now (t .entry)) c k ⌝ }
 {
-    let a0 = k[0] ^ (round::sub(t, k[13]) ^ c);
-    let a1 = k[1] ^ round::sub(t, k[14]);
-    let a2 = k[2] ^ round::sub(t, k[15]);
-    let a3 = k[3] ^ round::sub(t, k[12]);
+    let a0 = k[0] ^ (sub(t, k[13]) ^ c);
+    let a1 = k[1] ^ sub(t, k[14]);
+    let a2 = k[2] ^ sub(t, k[15]);
+    let a3 = k[3] ^ sub(t, k[12]);
     let b0 = k[4] ^ a0;
     let b1 = k[5] ^ a1;
     let b2 = k[6] ^ a2;

@@ -1,7 +1,7 @@
 -- x times a byte is linear, and the products by the constants of MixColumns are sums of its powers.
 -- Assumes nothing.
 use mathlib.Core.Path.{_≡_, refl, sym, ap, ap₂, _∙_}
-use Prim.Native.Nat.{ℕ, zero, suc, _*_, _/_, _%_, _<_}
+use Prim.Native.Nat.{ℕ, zero, suc, _+_, _*_, _/_, _%_, _^_, _<_}
 use native.Mathlib.Nat.{add-zero}
 use native.Mathlib.Omega.{arith}
 use lib.Dec.{lit<}
@@ -127,7 +127,7 @@ pub •-⊕4 : (k w x y z : ℕ) → w < 256 → x < 256 → y < 256 → z < 256
     •-⊕ k (w ⊕ x ⊕ y) z (⊕-lt (⊕-lt hw hx) hy) hz
     ∙ ap (λ (m : ℕ). m ⊕ k • z) (•-⊕ k (w ⊕ x) y (⊕-lt hw hx) hy ∙ ap (λ (m : ℕ). m ⊕ k • y) (•-⊕ k w x hw hx))
 
-⊕-back : (a b : ℕ) → a ⊕ (a ⊕ b) ≡ b
+pub ⊕-back : (a b : ℕ) → a ⊕ (a ⊕ b) ≡ b
 ⊕-back a b = sym (⊕-assoc a a b) ∙ ap (λ (x : ℕ). x ⊕ b) (⊕-self a) ∙ zero-⊕ b
 
 -- sixteen terms, row by row and column by column

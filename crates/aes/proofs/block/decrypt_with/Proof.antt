@@ -1,37 +1,53 @@
--- `aes::block::decrypt_with` meets its contract: with r rounds to go, those take s to what all nine take the first state to.
+-- `aes::block::decrypt_with` meets its contract: with r rounds to go, those take the two halves to what all nine take the first state to.
 -- Assumes nothing.
-use mathlib.Core.Path.{_≡_, refl}
-use Prim.Native.Nat.{_≤_, _-_}
+use mathlib.Core.Path.{_≡_, refl, sym, ap, ap₂, _∙_}
+use mathlib.Core.List.{List, [], _∷_, _++_}
+use Prim.Native.Nat.{ℕ, _+_, _-_, _*_, _/_, _%_, _^_, _≤_}
 use native.Mathlib.Omega.{arith}
 use borrow.Author.Needs.{needs}
+use Rattle.aes_field.specs.Packed.{unpacked, columns}
+use Rattle.aes.specs.State.{subBytes, invShiftRows, invMixColumns, addRoundKey}
 use Rattle.aes.specs.Cipher.{invRounds, invCipher}
 use Rattle.aes.proofs.Rounds.{invRounds-zero, invRounds-step}
+use Rattle.aes.proofs.Halves.{add-halves, unround-halves, unlast-halves}
 use Rattle.aes.proofs.block.decrypt_with.Statement.{statement}
 use Rattle.aes.proofs.block.decrypt_with.Tie as tie
 
 abbrev Inv-loop : tie.InvT-loop
-Inv-loop w t s₀ r₀ s r = (r ≤ 9) × (invRounds t w r s ≡ invRounds t w 9 s₀)
+Inv-loop w t x₀ y₀ r₀ x y r = (r ≤ 9) × (invRounds t w r (unpacked 8 x ++ unpacked 8 y) ≡ invRounds t w 9 (unpacked 8 x₀ ++ unpacked 8 y₀))
 
 abbrev μ-loop : tie.MeasureT-loop
-μ-loop w t s₀ r₀ s r = r
+μ-loop w t x₀ y₀ r₀ x y r = r
 
 loop-again : tie.Need-loop-again Inv-loop μ-loop
 loop-again c =
-    let l = c .before .before .before .before in
-    let a = l .before .before .args in
-    (omega arith, cc (invRounds-step (a .t .now) (a .w .now) (l .loop .r) (l .loop .s) (search needs)))
+    let l = c .before .before .before in
+    let r = l .loop .r in
+    let a = l .before .before .before .args in
+    let s = unpacked 8 (l .loop .x) ++ unpacked 8 (l .loop .y) in
+    let step : unpacked 8 (c .before .unround .result) ++ unpacked 8 (c .unround2 .result)
+    ≡ invMixColumns (addRoundKey (subBytes (a .t .now) (invShiftRows s)) (a .w .now) r) =
+    ap₂ _++_ (c .before .unround .ensures) (c .unround2 .ensures) ∙ unround-halves (a .t .now) (a .w .now) r (l .loop .x) (l .loop .y) in
+    (omega arith, cc (invRounds-step (a .t .now) (a .w .now) r s (search needs)))
 
 returns : tie.Need-returns Inv-loop μ-loop
 unfolding invCipher
 returns c =
-    let l = c .before .before .before in
-    let a = l .before .before .args in
-    let none : l .loop .r ≡ 0 = omega (arith, c .before .before .loop-test .left) in
-    cc (invRounds-zero (a .t .now) (a .w .now) (l .loop .s))
+    let l = c .before .before .before .before in
+    let a = l .before .before .before .args in
+    let s = unpacked 8 (l .loop .x) ++ unpacked 8 (l .loop .y) in
+    let none : l .loop .r ≡ 0 = omega (arith, c .before .before .before .loop-test .left) in
+    let begin : unpacked 8 (l .before .before .first .result) ++ unpacked 8 (l .before .second .result) ≡ addRoundKey (a .block) (a .w .now) 10 =
+    ap₂ _++_ (l .before .before .first .ensures) (l .before .second .ensures) ∙ add-halves (a .t .now) (a .w .now) 10 (a .block) in
+    c .joined .ensures
+    ∙ ap₂ _++_ (c .before .before .unlast .ensures) (c .before .unlast2 .ensures)
+    ∙ unlast-halves (a .t .now) (a .w .now) 0 (l .loop .x) (l .loop .y)
+    ∙ ap (λ (v : List ℕ). addRoundKey (subBytes (a .t .now) (invShiftRows v)) (a .w .now) 0)
+    (sym (invRounds-zero (a .t .now) (a .w .now) s) ∙ ap (λ (n : ℕ). invRounds (a .t .now) (a .w .now) n s) (sym none) ∙ l .loop .inv .1
+    ∙ ap (invRounds (a .t .now) (a .w .now) 9) begin)
 
 pub decrypt-with-spec : {M : Type 1} → statement M
 decrypt-with-spec =
     tie.close
     (tie.spec Inv-loop μ-loop
-    (λ c κs. search needs) (λ c. (omega arith, refl)) (λ c κs. search needs) (λ c κs. search needs) (λ c κs. search needs)
-    (λ c. omega arith) (λ c. omega arith) loop-again (λ c κs. search needs) (λ c κs. search needs) returns)
+    (λ c κs. search needs) (λ c κs. search needs) (λ c. (omega arith, refl)) (λ c. omega arith) (λ c κs. search needs) (λ c. omega arith) (λ c κs. search needs) (λ c. omega arith) (λ c. omega arith) loop-again (λ c κs. search needs) (λ c κs. search needs) (λ c κs. search needs) returns)

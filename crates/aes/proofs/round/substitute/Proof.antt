@@ -1,43 +1,34 @@
--- `aes::round::substitute` meets its contract, byte by byte.
+-- `aes::round::substitute` meets its contract: a byte of the half comes from a byte of one of the two.
 -- Assumes nothing.
-use mathlib.Core.List.{[], _∷_}
+use mathlib.Core.Path.{_≡_, ap, _∙_}
+use mathlib.Core.List.{List, [], _∷_, _++_}
+use Prim.Native.Nat.{ℕ, _+_, _-_, _*_, _/_, _%_, _^_, _≤_}
+use lib.ListN.{getD}
 use borrow.Author.Needs.{needs}
-use Rattle.laws.specs.Table.{blockOf}
-use Rattle.aes.specs.State.{subBytes, shiftRows}
+use Rattle.aes_field.specs.Packed.{unpacked, columns}
+use Rattle.aes_field.proofs.Packing.{after, after-is}
+use Rattle.aes.specs.Halves.{forth}
 use Rattle.aes.proofs.round.substitute.Statement.{statement}
 use Rattle.aes.proofs.round.substitute.Tie as tie
 
 returns : tie.Need-returns
-unfolding blockOf subBytes shiftRows
+unfolding unpacked forth
 returns c =
-    λ i.
-    c .before .before .before .before .before .before .before .before .before .before .before .before .before .before .before .sub .ensures i
-    ∷ c .before .before .before .before .before .before .before .before .before .before .before .before .before .before .sub2 .ensures i
-    ∷ c .before .before .before .before .before .before .before .before .before .before .before .before .before .sub3 .ensures i
-    ∷ c .before .before .before .before .before .before .before .before .before .before .before .before .sub4 .ensures i
-    ∷ c .before .before .before .before .before .before .before .before .before .before .before .sub5 .ensures i
-    ∷ c .before .before .before .before .before .before .before .before .before .before .sub6 .ensures i
-    ∷ c .before .before .before .before .before .before .before .before .before .sub7 .ensures i
-    ∷ c .before .before .before .before .before .before .before .before .sub8 .ensures i
-    ∷ c .before .before .before .before .before .before .before .sub9 .ensures i
-    ∷ c .before .before .before .before .before .before .sub10 .ensures i
-    ∷ c .before .before .before .before .before .sub11 .ensures i
-    ∷ c .before .before .before .before .sub12 .ensures i
-    ∷ c .before .before .before .sub13 .ensures i
-    ∷ c .before .before .sub14 .ensures i
-    ∷ c .before .sub15 .ensures i
-    ∷ c .sub16 .ensures i ∷ []
+    let a = c .before .before .before .before .before .before .before .before .before .args in
+    let at : (x i : ℕ) → getD (a .t .now) (x / 256 ^ i % 256) 0 ≡ getD (a .t .now) (after x i % 256) 0 =
+    λ x i. ap (λ (z : ℕ). getD (a .t .now) (z % 256) 0) (after-is x i) in
+    c .pack .ensures
+    ∙ (λ i.
+    c .before .before .before .before .before .before .before .before .sub .ensures i
+    ∷ (c .before .before .before .before .before .before .before .sub2 .ensures ∙ at (a .x) 5) i
+    ∷ (c .before .before .before .before .before .before .sub3 .ensures ∙ at (a .y) 2) i
+    ∷ (c .before .before .before .before .before .sub4 .ensures ∙ at (a .y) 7) i
+    ∷ (c .before .before .before .before .sub5 .ensures ∙ at (a .x) 4) i
+    ∷ (c .before .before .before .sub6 .ensures ∙ at (a .y) 1) i
+    ∷ (c .before .before .sub7 .ensures ∙ at (a .y) 6) i
+    ∷ (c .before .sub8 .ensures ∙ at (a .x) 3) i ∷ [])
 
 pub substitute-spec : {M : Type 1} → statement M
 substitute-spec =
     tie.close
-    (tie.spec
-    (λ c. search needs) (λ c κs. search needs) (λ c. search needs) (λ c κs. search needs)
-    (λ c. search needs) (λ c κs. search needs) (λ c. search needs) (λ c κs. search needs)
-    (λ c. search needs) (λ c κs. search needs) (λ c. search needs) (λ c κs. search needs)
-    (λ c. search needs) (λ c κs. search needs) (λ c. search needs) (λ c κs. search needs)
-    (λ c. search needs) (λ c κs. search needs) (λ c. search needs) (λ c κs. search needs)
-    (λ c. search needs) (λ c κs. search needs) (λ c. search needs) (λ c κs. search needs)
-    (λ c. search needs) (λ c κs. search needs) (λ c. search needs) (λ c κs. search needs)
-    (λ c. search needs) (λ c κs. search needs) (λ c. search needs) (λ c κs. search needs)
-    returns)
+    (tie.spec (λ c κs. search needs) (λ c κs. search needs) (λ c κs. search needs) (λ c κs. search needs) (λ c κs. search needs) (λ c κs. search needs) (λ c κs. search needs) (λ c κs. search needs) (λ c κs. search needs) returns)

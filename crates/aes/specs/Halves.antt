@@ -1,0 +1,26 @@
+-- The state as two halves of two columns each, as the code holds it: l is the half that a step makes, m the other one. FIPS 197 has
+-- nothing of this, and no promise of a public call speaks of it; proofs/Halves shows that two halves are a step of CIPHER.
+-- Assumes nothing.
+use mathlib.Core.List.{List, [], _∷_}
+use Prim.Native.Nat.{ℕ, _+_}
+use lib.ListN.{getD}
+
+-- SUBBYTES and SHIFTROWS, with the table t
+unfoldable pub forth : List ℕ → List ℕ → List ℕ → List ℕ
+forth t l m =
+    let p : ℕ → ℕ = λ i. getD t (getD l i 0) 0 in
+    let q : ℕ → ℕ = λ i. getD t (getD m i 0) 0 in
+    p 0 ∷ p 5 ∷ q 2 ∷ q 7 ∷ p 4 ∷ q 1 ∷ q 6 ∷ p 3 ∷ []
+
+-- INVSHIFTROWS and INVSUBBYTES, with the inverse table t
+unfoldable pub back : List ℕ → List ℕ → List ℕ → List ℕ
+back t l m =
+    let p : ℕ → ℕ = λ i. getD t (getD l i 0) 0 in
+    let q : ℕ → ℕ = λ i. getD t (getD m i 0) 0 in
+    p 0 ∷ q 5 ∷ q 2 ∷ p 7 ∷ p 4 ∷ p 1 ∷ q 6 ∷ q 3 ∷ []
+
+-- eight bytes of l from `at` on
+unfoldable pub part : List ℕ → ℕ → List ℕ
+part l at =
+    let g : ℕ → ℕ = λ i. getD l (at + i) 0 in
+    g 0 ∷ g 1 ∷ g 2 ∷ g 3 ∷ g 4 ∷ g 5 ∷ g 6 ∷ g 7 ∷ []
