@@ -1,14 +1,12 @@
 -- What enciphering and deciphering answer and leave behind, case by case, in the code's order.
 -- Assumes nothing.
-use mathlib.Core.Path.{_≡_, refl, sym, ap, ap₂, _∙_}
-use mathlib.Core.Bool.{Bool, true, false, cond, not, _||_}
+use mathlib.Core.Path.{_≡_, sym, ap, ap₂, _∙_}
 use mathlib.Core.List.{List, [], _∷_, _++_}
-use Prim.Native.Nat.{ℕ, zero, suc, _+_, _-_, _*_, _/_, _%_, _≤_, _<_}
+use Prim.Native.Nat.{ℕ, _+_, _-_, _%_, _≤_, _<_}
 use native.Mathlib.Omega.{arith}
 use borrow.Author.Tests.{eq-eqb, ne-eqb, lt-ltb, le-ltb}
-use lib.Dec.{eqb, ltb}
 use lib.ListN.{length, take, drop, set, length-set, length-replicate}
-use lib.Seq.{drop-at, drop-append-add, set-append-left}
+use lib.Seq.{drop-at, set-append-left}
 use Rattle.laws.specs.Answer.{Answer, Answer.given, Answer.refused}
 use Rattle.laws.specs.Bytes.{zeros}
 use Rattle.laws.specs.Blocks.{blocks, flat}

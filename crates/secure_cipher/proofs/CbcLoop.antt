@@ -1,8 +1,8 @@
 -- CBC as a loop makes it, a block a turn into the front of a buffer.
 -- Assumes nothing.
-use mathlib.Core.Path.{_≡_, refl, sym, ap, ap₂, _∙_}
+use mathlib.Core.Path.{_≡_, refl, sym, ap, _∙_}
 use mathlib.Core.List.{List, [], _∷_, _++_, append-assoc, append-nil}
-use Prim.Native.Nat.{ℕ, zero, suc, _+_, _-_, _*_, _/_, _%_, _≤_, _<_}
+use Prim.Native.Nat.{ℕ, suc, _+_, _-_, _*_, _/_, _≤_, _<_}
 use native.Mathlib.Nat.{sub-zero}
 use native.Mathlib.Omega.{arith}
 use lib.ListN.{length, take, drop, length-append}
@@ -10,7 +10,7 @@ use lib.Seq.{drop-drop}
 use Rattle.laws.specs.Bytes.{xorl}
 use Rattle.laws.specs.Blocks.{cut, blocks, flat}
 use Rattle.laws.specs.Over.{write}
-use Rattle.laws.proofs.BlockLists.{cut-suc, length-blocks}
+use Rattle.laws.proofs.BlockLists.{cut-suc}
 use Rattle.laws.proofs.Overwrite.{write-nil, write-write, length-write}
 use Rattle.aes.specs.Cipher.{E, D}
 use Rattle.secure_cipher.specs.Pad.{padData}

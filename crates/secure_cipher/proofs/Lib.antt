@@ -5,3 +5,5 @@ pub mod MacLaws
 pub mod CbcLaws
 pub mod CbcLoop
 pub mod CbcCalls
+pub mod Settled
+pub mod Worked

@@ -2,21 +2,20 @@
 -- Assumes nothing.
 use mathlib.Core.Path.{_≡_, refl, sym, ap, ap₂, _∙_}
 use mathlib.Core.List.{List, [], _∷_, _++_}
-use Prim.Native.Nat.{ℕ, zero, suc, _+_, _-_, _*_, _/_, _%_, _≤_, _<_}
+use Prim.Native.Nat.{ℕ, zero, suc, _+_, _-_, _*_, _/_, _≤_, _<_}
 use native.Mathlib.Nat.{sub-zero}
-use native.Mathlib.Numerals.{add-one}
 use native.Mathlib.Omega.{arith}
 use lib.ListN.{length, take, drop, length-drop}
 use lib.Seq.{drop-drop, take-append-le, drop-append-le}
 use Rattle.laws.specs.Bytes.{Bytes, xorl}
 use Rattle.laws.specs.Blocks.{Block, Blocks, cut, blocks}
-use Rattle.laws.proofs.BlockLists.{block-xorl, cut-suc, length-cut, length-blocks, blocks-blocks}
+use Rattle.laws.proofs.BlockLists.{block-xorl, cut-suc, length-blocks, blocks-blocks}
 use Rattle.aes.specs.Cipher.{E}
 use Rattle.aes.proofs.Laws.{E-block}
 use Rattle.secure_cipher.specs.Pad.{padMac, padData, tail80}
-use Rattle.secure_cipher.specs.Mac.{Mac, keyFor, macRun, macOf}
+use Rattle.secure_cipher.specs.Mac.{keyFor, macRun, macOf}
 use Rattle.secure_cipher.specs.Parts.{chained}
-use Rattle.secure_cipher.proofs.PadLaws.{padMac-whole, padMac-part, padMac-by, length-padMac, bytes-padMac}
+use Rattle.secure_cipher.proofs.PadLaws.{padMac-by, length-padMac, bytes-padMac}
 
 -- ---- laws for the theory above
 
@@ -126,7 +125,7 @@ module _ (k₁ k₂ v l p b f : List ℕ) (n : ℕ) (h : 0 < length l) (en : n �
       let e : length (padMac l) / 16 ≡ suc n = omega (arith, length-padMac l) in
       rw (e, last-cut) (run-last k₁ k₂ v b (cut n l) ∙ ap (λ (x : List ℕ). E k₂ (xorl x b)) (sym ep) ∙ sym ef)
 
-  pub mac-last : record { full = f; steps = n + 1 } ≡ macOf k₁ k₂ v l
-  mac-last =
-      let s : macOf k₁ k₂ v l .steps ≡ n + 1 = omega (arith, mac-steps k₁ k₂ v l) in
+  pub mac-last : (m : ℕ) → m ≡ n + 1 → record { full = f; steps = m } ≡ macOf k₁ k₂ v l
+  mac-last m em =
+      let s : macOf k₁ k₂ v l .steps ≡ m = omega (arith, mac-steps k₁ k₂ v l) in
       λ i. record { full = sym last-full i; steps = sym s i }

@@ -1,9 +1,8 @@
 -- `secure_cipher::pad::pad_data` meets its contract: the bytes, 80 and zeros, one after the other.
 -- Assumes nothing.
-use Prim.Native.Nat.{ℕ, _+_, _*_, _/_}
-use mathlib.Core.Path.{_≡_, refl, sym}
+use Prim.Native.Nat.{_+_, _*_, _/_}
+use mathlib.Core.Path.{_≡_, refl}
 use native.Mathlib.Omega.{arith}
-use borrow.Author.Needs.{needs}
 use lib.ListN.{length, length-set}
 use Rattle.secure_cipher.specs.Pad.{padData}
 use Rattle.secure_cipher.proofs.PadLaws.{length-padData, fits-short, fits-good, pad-made}
