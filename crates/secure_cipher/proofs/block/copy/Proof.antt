@@ -1,0 +1,27 @@
+-- `secure_cipher::block::copy` meets its contract: before turn i, the first i bytes of s are written.
+-- Assumes nothing.
+use Prim.Native.Nat.{ℕ, _≤_, _-_, _+_}
+use mathlib.Core.Path.{_≡_, refl}
+use native.Mathlib.Omega.{arith}
+use lib.ListN.{length, getD}
+use Rattle.secure_cipher.proofs.Pasted.{Pasted, pasted-none, pasted-more, pasted-all}
+use Rattle.secure_cipher.proofs.block.copy.Statement.{statement}
+use Rattle.secure_cipher.proofs.block.copy.Tie as tie
+
+abbrev Inv-loop : tie.InvT-loop
+Inv-loop s out₀ i₀ i-end out i = (i ≤ length s) × ((i-end ≡ length s) × Pasted out₀ 0 s i out)
+
+abbrev μ-loop : tie.MeasureT-loop
+μ-loop s out₀ i₀ i-end out i = length s - i
+
+loop-again : tie.Need-loop-again Inv-loop μ-loop
+loop-again c =
+    let l = c .before .before .loop in
+    (omega arith, (l .inv .1 .0, pasted-more (l .i) _ (l .i + 1) (omega arith) refl (omega arith) (omega arith) (omega arith) (l .inv .1 .1)))
+
+pub copy-spec : {M : Type 1} → statement M
+copy-spec =
+    tie.close
+    (tie.spec Inv-loop μ-loop
+    (λ c. (omega arith, (refl, pasted-none _ _ _ 0 refl))) (λ c. omega arith) (λ c. omega arith) (λ c. omega arith) (λ c. omega arith)
+    loop-again (λ c. c .before .loop .inv .1 .1 .size) (λ c. pasted-all (omega arith) (c .before .loop .inv .1 .1)))

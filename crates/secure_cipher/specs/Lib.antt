@@ -1,0 +1,4 @@
+pub mod Pad
+pub mod Mac
+pub mod Cbc
+pub mod Parts
