@@ -1,0 +1,3 @@
+mod Listed
+mod Alike
+pub mod KeysLaws

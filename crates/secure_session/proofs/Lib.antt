@@ -1,0 +1,4 @@
+mod Cases
+pub mod Settled
+pub mod SessionLaws
+pub mod Shaken

@@ -1,0 +1,77 @@
+-- The laws of the chain's five names: what else is said of a session rests on these, and not on where the chain value is kept.
+-- Assumes nothing.
+use mathlib.Core.Bool.{true}
+use mathlib.Core.List.{List}
+use mathlib.Core.Path.{_≡_, refl}
+use Prim.Native.Nat.{ℕ}
+use Rattle.secure_session.specs.Session.{isSecure, sendFrom, recvFrom, sent, received, secured}
+use Rattle.secure_session.specs.declared.session.Session.{Session}
+use Rattle.secure_session.specs.declared.session.State.the-variants.{Secure}
+
+module _ (s : Session) (m : List ℕ) where
+  -- after a MAC was made
+  pub send-sent : sendFrom (sent s m) ≡ m
+  unfolding sendFrom sent
+  send-sent = refl
+
+  pub recv-sent : recvFrom (sent s m) ≡ m
+  unfolding recvFrom sent
+  recv-sent = refl
+
+  pub sent-end : sent s m .end ≡ s .end
+  unfolding sent
+  sent-end = refl
+
+  pub sent-state : sent s m .state ≡ s .state
+  unfolding sent
+  sent-state = refl
+
+  pub sent-keys : sent s m .keys ≡ s .keys
+  unfolding sent
+  sent-keys = refl
+
+  -- after a MAC was found right
+  pub send-received : sendFrom (received s m) ≡ m
+  unfolding sendFrom received
+  send-received = refl
+
+  pub recv-received : recvFrom (received s m) ≡ m
+  unfolding recvFrom received
+  recv-received = refl
+
+  pub received-end : received s m .end ≡ s .end
+  unfolding received
+  received-end = refl
+
+  pub received-state : received s m .state ≡ s .state
+  unfolding received
+  received-state = refl
+
+  pub received-keys : received s m .keys ≡ s .keys
+  unfolding received
+  received-keys = refl
+
+  -- with the first chain value
+  pub send-secured : sendFrom (secured s m) ≡ m
+  unfolding sendFrom secured
+  send-secured = refl
+
+  pub recv-secured : recvFrom (secured s m) ≡ m
+  unfolding recvFrom secured
+  recv-secured = refl
+
+  pub secured-end : secured s m .end ≡ s .end
+  unfolding secured
+  secured-end = refl
+
+  pub secured-state : secured s m .state ≡ Secure
+  unfolding secured
+  secured-state = refl
+
+  pub secured-keys : secured s m .keys ≡ s .keys
+  unfolding secured
+  secured-keys = refl
+
+  pub secured-secure : isSecure (secured s m .state) ≡ true
+  unfolding secured isSecure
+  secured-secure = refl

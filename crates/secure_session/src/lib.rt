@@ -1,0 +1,11 @@
+// One session of the channel, at either end.
+mod session;
+
+pub use session::BlockAnswer;
+pub use session::End;
+pub use session::KeysAnswer;
+pub use session::Outcome;
+pub use session::Session;
+pub use session::State;
+pub use session::Stepped;
+pub use session::SteppedBlock;
