@@ -1,0 +1,121 @@
+-- Sealing (docs/RULES.md, 8.1, 8.2 and 9): a core that knows no session, and the call on a session.
+-- Assumes nothing.
+use Prim.Native.Nat.{ℕ, _+_}
+use mathlib.Core.Bool.{Bool, true, false, cond}
+use mathlib.Core.List.{List, [], _∷_, _++_}
+use mathlib.Core.Option.{Option, none, some}
+use lib.Dec.{ltb}
+use lib.ListN.{length, take}
+use Rattle.laws.specs.Answer.{Answer, Answer.given, Answer.refused}
+use Rattle.laws.specs.Bytes.{compl}
+use Rattle.laws.specs.Over.{write}
+use Rattle.packet_head.specs.Header.{Control}
+use Rattle.packet_build.specs.Build.{Block, Block.scb, Parts, bodyBytes, bytesOf}
+use Rattle.secure_keys.specs.declared.crypto.SessionKeys.{SessionKeys}
+use Rattle.secure_cipher.specs.Pad.{lengthAnswer}
+use Rattle.secure_cipher.specs.Mac.{Mac, macOf}
+use Rattle.secure_cipher.specs.Cbc.{Hidden, hide, hiddenLen}
+use Rattle.secure_session.specs.Session.{isSecure, sendFrom, sent}
+use Rattle.secure_session.specs.declared.session.State.{State}
+use Rattle.secure_session.specs.declared.session.Session.{Session}
+use Rattle.secure_seal.specs.declared.seal.Direction.{Direction}
+use Rattle.secure_seal.specs.declared.seal.Direction.the-variants.{AcuToPd, PdToAcu}
+use Rattle.secure_seal.specs.declared.seal.Sealed.{Sealed}
+
+-- 15 or 17 from the controller, 16 or 18 from the reader
+unfoldable pub typeFor : Direction → Bool → ℕ
+typeFor AcuToPd false = 0x15
+typeFor PdToAcu false = 0x16
+typeFor AcuToPd true = 0x17
+typeFor PdToAcu true = 0x18
+
+-- ---- the frame, from keys, a start value and the fields alone
+
+-- how much data a payload becomes
+unfoldable pub dataLen : Bool → List ℕ → ℕ
+dataLen false x = length x
+dataLen true x = hiddenLen x
+
+-- the frame's data: the payload, or the payload enciphered from the complement of the start value
+unfoldable pub dataOf : Bool → List ℕ → List ℕ → List ℕ → Hidden
+dataOf false k v x = record { bytes = x; steps = 0 }
+dataOf true k v x = hide k (compl v) x
+
+-- what `seal` is asked to write
+pub record Asked : Type 0 where
+  pub addr : ℕ
+  pub sqn : ℕ
+  pub direction : Direction
+  pub encrypt : Bool
+  pub code : ℕ
+  pub payload : List ℕ
+
+-- 53, address, LEN, CTRL, block, code: eight bytes; MAC and CRC: six
+abbrev pub totalOf : Asked → ℕ
+totalOf q = 14 + dataLen (q .encrypt) (q .payload)
+
+-- always a CRC and a block without data
+abbrev pub partsWith : Asked → List ℕ → List ℕ → Parts
+partsWith q d mac =
+    record { addr = q .addr; ctrl = (q .sqn, true, true); block = scb (typeFor (q .direction) (q .encrypt)) []; code = q .code; «data» = d; mac = mac }
+
+-- from 53 to the end of data
+abbrev pub bodyWith : Asked → List ℕ → List ℕ
+bodyWith q d = bodyBytes (q .addr) (q .sqn, true, true) (scb (typeFor (q .direction) (q .encrypt)) []) (q .code) d (totalOf q)
+
+pub record SealedFrame : Type 0 where
+  pub bytes : List ℕ
+  pub full : List ℕ
+  pub steps : ℕ
+
+-- the data, the MAC over all up to its end, and the frame with the MAC's first four bytes
+unfoldable pub sealedFrame : SessionKeys → List ℕ → Asked → SealedFrame
+sealedFrame k v q =
+    let d = dataOf (q .encrypt) (k .«s_enc») v (q .payload) in
+    let m = macOf (k .«s_mac1») (k .«s_mac2») v (bodyWith q (d .bytes)) in
+    record { bytes = bytesOf (partsWith q (d .bytes) (take 4 (m .full))) (totalOf q); full = m .full; steps = d .steps + m .steps }
+
+-- ---- the tests: what is answered, the full MAC if the chain moves, the buffer, the steps
+
+pub record SealRun : Type 0 where
+  pub answer : Answer ℕ
+  pub moved : Option (List ℕ)
+  pub out : List ℕ
+  pub steps : ℕ
+
+abbrev nay : ℕ → List ℕ → List ℕ → SealRun
+nay n vs o = record { answer = refused n vs; moved = none; out = o; steps = 0 }
+
+-- 16, 10, 12, 18
+unfoldable pub sealRun : State → SessionKeys → List ℕ → Asked → List ℕ → SealRun
+sealRun t k v q o =
+    let f = sealedFrame k v q in
+    cond (isSecure t)
+    (cond (ltb 3 (q .sqn)) (nay 10 (q .sqn ∷ []) o)
+    (cond (ltb 65535 (totalOf q)) (nay 12 (totalOf q ∷ 65535 ∷ []) o)
+    (cond (ltb (length o) (totalOf q)) (nay 18 (totalOf q ∷ length o ∷ []) o)
+    (record { answer = given (totalOf q); moved = some (f .full); out = write o 0 (f .bytes); steps = f .steps }))))
+    (nay 16 [] o)
+
+-- ---- on a session
+
+pub record SealDone : Type 0 where
+  pub answer : Answer ℕ
+  pub session : Session
+  pub out : List ℕ
+  pub steps : ℕ
+
+-- the chain moves by a full MAC that was made
+unfoldable pub afterSeal : Session → Option (List ℕ) → Session
+afterSeal s none = s
+afterSeal s (some m) = sent s m
+
+unfoldable pub sealOf : Session → Asked → List ℕ → SealDone
+sealOf s q o =
+    let r = sealRun (s .state) (s .keys) (sendFrom s) q o in
+    record { answer = r .answer; session = afterSeal s (r .moved); out = r .out; steps = r .steps }
+
+-- ---- the code's answer, as the paper has it; `o` is the buffer in the end
+
+abbrev pub sealTold : Sealed → List ℕ → SealDone
+sealTold r o = record { answer = lengthAnswer (r .answer); session = r .session; out = o; steps = r .calls }

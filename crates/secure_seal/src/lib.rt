@@ -1,0 +1,5 @@
+// Sealing a frame.
+mod seal;
+
+pub use seal::Direction;
+pub use seal::Sealed;

@@ -1,0 +1,2 @@
+pub mod Unseal
+pub mod Lookup
