@@ -57,12 +57,12 @@ below-lt s b i k = b .bytes (4 * (i / 4) + (i % 4 + k) % 4)
 
 pub mix-block : (s : List ℕ) → Block s → Block (mixColumns s)
 unfolding mixColumns
-mix-block s b = is-block _ (λ i. ⊕-lt (⊕-lt (⊕-lt (•-lt 2 (below-lt s b i 0)) (•-lt 3 (below-lt s b i 1))) (below-lt s b i 2)) (below-lt s b i 3))
+mix-block s b = is-block _ (λ i. ⊕-lt (⊕-lt (⊕-lt (•-lt _ (below-lt s b i 0)) (•-lt _ (below-lt s b i 1))) (below-lt s b i 2)) (below-lt s b i 3))
 
 pub unmix-block : (s : List ℕ) → Block s → Block (invMixColumns s)
 unfolding invMixColumns
 unmix-block s b =
-    is-block _ (λ i. ⊕-lt (⊕-lt (⊕-lt (•-lt 14 (below-lt s b i 0)) (•-lt 11 (below-lt s b i 1))) (•-lt 13 (below-lt s b i 2))) (•-lt 9 (below-lt s b i 3)))
+    is-block _ (λ i. ⊕-lt (⊕-lt (⊕-lt (•-lt _ (below-lt s b i 0)) (•-lt _ (below-lt s b i 1))) (•-lt _ (below-lt s b i 2))) (•-lt _ (below-lt s b i 3)))
 
 pub add-block : (s w : List ℕ) (r : ℕ) → Block s → Bytes w → Block (addRoundKey s w r)
 unfolding addRoundKey
