@@ -44,10 +44,10 @@ chained s m h = ap (λ (n : Session). withChain n m) h
 
 -- ---- the handshake's calls
 
-abbrev done : {A : Type 0} → A → Session → Step A
+abbrev pub done : {A : Type 0} → A → Session → Step A
 done a s = record { answer = given a; session = s }
 
-abbrev no : {A : Type 0} → ℕ → Session → Step A
+abbrev pub no : {A : Type 0} → ℕ → Session → Step A
 no n s = record { answer = refused n []; session = s }
 
 -- the block beside an answer goes with it
