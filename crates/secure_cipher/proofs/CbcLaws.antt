@@ -1,22 +1,22 @@
 -- CBC: how long what is hidden becomes, and deciphering undoes enciphering.
 -- Assumes nothing.
-use mathlib.Core.Path.{_≡_, refl, sym, ap, ap₂, _∙_}
-use mathlib.Core.Bool.{Bool, true, false, cond, not, _||_}
-use mathlib.Core.List.{List, [], _∷_, _++_}
-use Prim.Native.Nat.{ℕ, zero, suc, _+_, _-_, _*_, _/_, _%_, _≤_, _<_}
+use mathlib.Core.Path.{_≡_, refl, ap, ap₂, _∙_}
+use mathlib.Core.Bool.{true, false}
+use mathlib.Core.List.{List, [], _∷_}
+use Prim.Native.Nat.{ℕ, suc, _+_, _*_, _/_, _%_}
 use native.Mathlib.Omega.{arith}
 use borrow.Author.Tests.{eq-eqb, ne-eqb}
 use lib.Dec.{eqb}
-use lib.ListN.{length, take, drop}
-use Rattle.laws.specs.Answer.{Answer, Answer.given, Answer.refused}
+use lib.ListN.{length}
+use Rattle.laws.specs.Answer.{Answer.given}
 use Rattle.laws.specs.Bytes.{Bytes, xorl}
-use Rattle.laws.specs.Blocks.{Block, Blocks, blocks, flat}
+use Rattle.laws.specs.Blocks.{Block, Blocks, blocks}
 use Rattle.laws.proofs.ByteLists.{xorl-cancel}
 use Rattle.laws.proofs.BlockLists.{block-xorl, length-blocks, length-flat, bytes-flat, blocks-flat, flat-blocks, blocks-blocks}
-use Rattle.aes.specs.Cipher.{E, D}
+use Rattle.aes.specs.Cipher.{E}
 use Rattle.aes.proofs.Laws.{E-block, D-E}
-use Rattle.secure_cipher.specs.Pad.{padData, unpad}
-use Rattle.secure_cipher.specs.Cbc.{Run, encRun, decRun, hide, Opening, reveal}
+use Rattle.secure_cipher.specs.Pad.{padData}
+use Rattle.secure_cipher.specs.Cbc.{encRun, decRun, hide, reveal}
 use Rattle.secure_cipher.proofs.PadLaws.{length-padData, bytes-padData, unpad-padData}
 
 -- ---- runs of blocks

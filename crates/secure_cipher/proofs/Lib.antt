@@ -1,7 +1,10 @@
 pub mod PadLaws
 pub mod Pasted
 pub mod Keyed
+pub mod Turns
 pub mod MacLaws
 pub mod CbcLaws
 pub mod CbcLoop
 pub mod CbcCalls
+pub mod Settled
+pub mod Worked

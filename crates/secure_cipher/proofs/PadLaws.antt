@@ -9,9 +9,9 @@ use native.Mathlib.Omega.{arith}
 use native.Mathlib.Numerals.{add-one}
 use borrow.Author.Tests.{eq-eqb, ne-eqb, eqb-true, eqb-false, lt-ltb, le-ltb}
 use lib.Dec.{eqb, lit<}
-use lib.ListN.{length, take, drop, getD, replicate, set, length-append, length-drop, length-replicate, getD-replicate, replicate-append-replicate}
+use lib.ListN.{length, take, drop, getD, replicate, set, length-append, length-drop, length-replicate, getD-replicate}
 use lib.Seq.{getD-append-seam, getD-append-add, take-append-le, drop-append-le, take-all, take-suc, take-length, set-at, set-split, append-snoc, length-take-le}
-use Rattle.laws.specs.Answer.{Answer, Answer.given, Answer.refused}
+use Rattle.laws.specs.Answer.{Answer.given, Answer.refused}
 use Rattle.laws.specs.Bytes.{Bytes, zeros}
 use Rattle.laws.specs.Over.{write}
 use Rattle.laws.proofs.Answers.{refuse-true, refuse-false}

@@ -1,12 +1,12 @@
 -- CBC (NIST SP 800-38A, 6.2) over whole blocks, and the two calls over bytes with the data's padding (docs/RULES.md, 6). Each call of
 -- the cipher is counted where it is made.
 -- Assumes nothing.
-use Prim.Native.Nat.{ℕ, zero, suc, _-_, _%_}
-use mathlib.Core.Bool.{Bool, true, false, cond, not, _||_}
+use Prim.Native.Nat.{ℕ, suc, _-_, _%_}
+use mathlib.Core.Bool.{cond, not, _||_}
 use mathlib.Core.List.{List, [], _∷_, _++_}
 use lib.Dec.{ltb, eqb}
-use lib.ListN.{length, take, drop}
-use Rattle.laws.specs.Answer.{Answer, Answer.given, Answer.refused, refuseIf}
+use lib.ListN.{length, take}
+use Rattle.laws.specs.Answer.{Answer, Answer.given, Answer.refused}
 use Rattle.laws.specs.Bytes.{xorl, zeros}
 use Rattle.laws.specs.Blocks.{blocks, flat}
 use Rattle.laws.specs.Over.{write}

@@ -1,6 +1,6 @@
 -- The chain MAC (docs/RULES.md, 6), each call of the cipher counted where it is made.
 -- Assumes nothing.
-use Prim.Native.Nat.{ℕ, zero, suc}
+use Prim.Native.Nat.{ℕ, suc}
 use mathlib.Core.List.{List, [], _∷_}
 use Rattle.laws.specs.Bytes.{xorl}
 use Rattle.laws.specs.Blocks.{blocks}

@@ -3,7 +3,7 @@
 use Prim.Native.Nat.{ℕ}
 use mathlib.Core.Path.{_≡_}
 use mathlib.Core.List.{List, [], _∷_}
-use Rattle.laws.specs.Answer.{Answer, Answer.refused}
+use Rattle.laws.specs.Answer.{Answer.refused}
 use lib.ListN.{length}
 use Rattle.laws.specs.Blocks.{flat}
 use Rattle.laws.specs.Over.{write}

@@ -1,9 +1,9 @@
 -- `secure_cipher::block::block_at` meets its contract: the loop fills the block.
 -- Assumes nothing.
-use Prim.Native.Nat.{ℕ, _≤_, _-_, _+_}
-use mathlib.Core.Path.{_≡_, sym, _∙_}
+use Prim.Native.Nat.{_≤_, _-_}
+use mathlib.Core.Path.{sym, _∙_}
 use native.Mathlib.Omega.{arith}
-use lib.ListN.{length, getD, take, drop, length-drop}
+use lib.ListN.{getD, take, drop, length-drop}
 use lib.Seq.{getD-take, getD-drop, length-take-le}
 use Rattle.laws.proofs.Fill.{Filled, fill-none, fill-more, fill-all, whole}
 use Rattle.secure_cipher.proofs.block.block_at.Statement.{statement}

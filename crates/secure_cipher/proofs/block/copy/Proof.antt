@@ -1,9 +1,9 @@
 -- `secure_cipher::block::copy` meets its contract: before turn i, the first i bytes of s are written.
 -- Assumes nothing.
-use Prim.Native.Nat.{ℕ, _≤_, _-_, _+_}
+use Prim.Native.Nat.{_≤_, _-_, _+_}
 use mathlib.Core.Path.{_≡_, refl}
 use native.Mathlib.Omega.{arith}
-use lib.ListN.{length, getD}
+use lib.ListN.{length}
 use Rattle.secure_cipher.proofs.Pasted.{Pasted, pasted-none, pasted-more, pasted-all}
 use Rattle.secure_cipher.proofs.block.copy.Statement.{statement}
 use Rattle.secure_cipher.proofs.block.copy.Tie as tie

@@ -1,9 +1,9 @@
 -- `secure_cipher::block::zero` meets its contract: before turn i, zeros are written from `start` to before i.
 -- Assumes nothing.
 use Prim.Native.Nat.{ℕ, _≤_, _-_, _+_}
-use mathlib.Core.Path.{_≡_, refl, sym, _∙_}
+use mathlib.Core.Path.{sym}
 use native.Mathlib.Omega.{arith}
-use lib.ListN.{length, length-replicate, getD-replicate}
+use lib.ListN.{length-replicate, getD-replicate}
 use Rattle.laws.specs.Bytes.{zeros}
 use Rattle.secure_cipher.proofs.Pasted.{Pasted, pasted-none, pasted-more, pasted-all}
 use Rattle.secure_cipher.proofs.block.zero.Statement.{statement}

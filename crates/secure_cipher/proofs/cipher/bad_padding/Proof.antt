@@ -1,6 +1,6 @@
 -- `secure_cipher::cipher::bad_padding` meets its contract: zeros over the first n bytes.
 -- Assumes nothing.
-use mathlib.Core.Path.{_≡_, ap, _∙_}
+use mathlib.Core.Path.{ap, _∙_}
 use mathlib.Core.List.{List, []}
 use Prim.Native.Nat.{ℕ}
 use native.Mathlib.Nat.{sub-zero}

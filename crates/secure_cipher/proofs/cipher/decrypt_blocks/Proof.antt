@@ -5,12 +5,11 @@ use mathlib.Core.Path.{_≡_, refl, sym, ap, _∙_}
 use mathlib.Core.List.{List}
 use native.Mathlib.Omega.{arith}
 use borrow.Author.Needs.{needs}
-use lib.ListN.{length, take, drop}
+use lib.ListN.{length}
 use Rattle.laws.specs.Bytes.{xorl}
 use Rattle.laws.specs.Blocks.{blocks}
 use Rattle.laws.specs.Over.{write}
 use Rattle.laws.proofs.BlockLists.{length-blocks}
-use Rattle.aes.specs.Cipher.{D}
 use Rattle.secure_cipher.proofs.Keyed.{Schedule, schedule, deciphered}
 use Rattle.secure_cipher.proofs.CbcLaws.{dec-steps}
 use Rattle.secure_cipher.proofs.CbcLoop.{Laid, laid-none, laid-more, laid-size, laid-all, decRest, dec-more, dec-none, dec-all}
@@ -40,9 +39,9 @@ loop-again c =
       (
         search needs,
         λ k h.
-            laid-more x (decRest k p n (l .i + 1) b) _ ((l .i + 1) * 16) m (omega arith) (omega arith)
-            (dec-more k p n (l .i) (l .v) b x (d .before .loop-test .taken) (d .block-at .ensures)
-            (e .xor .ensures ∙ ap (λ (y : List ℕ). xorl y (l .v)) (deciphered _ _ k b _ (s .inverse-table .ensures) h (e .before .decrypt-with .ensures))))
+            laid-more x _ _ ((l .i + 1) * 16) m (omega arith) (omega arith)
+            (cc (dec-more k p n (l .i) (l .v) b x (d .before .loop-test .taken) (d .block-at .ensures)
+            (e .xor .ensures ∙ ap (λ (y : List ℕ). xorl y (l .v)) (deciphered _ _ k b _ (s .inverse-table .ensures) h (e .before .decrypt-with .ensures)))))
             (c .before .before .put .ensures) (l .inv .1 .1 k h),
       ),
     )

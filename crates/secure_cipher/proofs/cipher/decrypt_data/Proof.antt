@@ -1,13 +1,10 @@
 -- `secure_cipher::cipher::decrypt_data` meets its contract: its five returns are the five cases of deciphering.
 -- Assumes nothing.
-use Prim.Native.Nat.{ℕ}
-use mathlib.Core.Path.{_≡_, refl, sym, ap, _∙_}
-use mathlib.Core.List.{List}
+use mathlib.Core.Path.{sym, ap, _∙_}
 use native.Mathlib.Omega.{arith}
 use borrow.Author.Needs.{needs}
-use lib.ListN.{length, take}
+use lib.ListN.{length}
 use Rattle.laws.specs.Blocks.{blocks, flat}
-use Rattle.laws.proofs.Overwrite.{take-write}
 use Rattle.secure_cipher.specs.Pad.{unpad, lengthAnswer}
 use Rattle.secure_cipher.specs.Cbc.{decRun}
 use Rattle.secure_cipher.specs.Parts.{Deciphered}
@@ -56,8 +53,8 @@ returns-4 c =
     let f = d .before .before in
     let a = f .before .before .before .before .before .args in
     let e : Deciphered _ _ _ _ _ = d .decrypt-blocks .ensures in
-    decrypt-good (a .s-enc) (a .iv) (a .ct .now) (a .out .now) _ _ (f .before .before .if1 .left) (f .before .if2 .left) (f .if3 .left) (e .here) (e .size) (e .counted) _
-    (ap lengthAnswer (sym (c .before .len .given .1)) ∙ u .unpad-data .ensures ∙ ap unpad (read-text e))
+    cc (decrypt-good (a .s-enc) (a .iv) (a .ct .now) (a .out .now) _ _ (f .before .before .if1 .left) (f .before .if2 .left) (f .if3 .left) (e .here) (e .size) (e .counted) _
+    (ap lengthAnswer (sym (c .before .len .given .1)) ∙ u .unpad-data .ensures ∙ ap unpad (read-text e)))
 
 returns-5 : tie.Need-returns-5
 returns-5 c =
@@ -66,9 +63,8 @@ returns-5 c =
     let f = d .before .before in
     let a = f .before .before .before .before .before .args in
     let e : Deciphered _ _ _ _ _ = d .decrypt-blocks .ensures in
-    c .before .before .bad-padding3 .ensures
-    ∙ decrypt-bad (a .s-enc) (a .iv) (a .ct .now) (a .out .now) _ _ (f .before .before .if1 .left) (f .before .if2 .left) (f .if3 .left) (e .here) (e .size) (e .counted) _ _
-    (ap lengthAnswer (sym (c .before .before .before .before .enum-told .given .1)) ∙ u .unpad-data .ensures ∙ ap unpad (read-text e))
+    cc (decrypt-bad (a .s-enc) (a .iv) (a .ct .now) (a .out .now) _ _ (f .before .before .if1 .left) (f .before .if2 .left) (f .if3 .left) (e .here) (e .size) (e .counted) _ _
+    (ap lengthAnswer (sym (c .before .before .before .before .enum-told .given .1)) ∙ u .unpad-data .ensures ∙ ap unpad (read-text e)))
 
 pub decrypt-data-spec : {M : Type 1} → statement M
 decrypt-data-spec =

@@ -12,7 +12,7 @@ use Rattle.aes.specs.Cipher.{E}
 use Rattle.secure_cipher.specs.Pad.{padData}
 use Rattle.secure_cipher.proofs.Keyed.{Schedule, schedule, enciphered}
 use Rattle.secure_cipher.proofs.CbcLaws.{steps-hide}
-use Rattle.secure_cipher.proofs.CbcLoop.{Laid, laid-none, laid-more, laid-length, laid-all, encRest, enc-more, enc-none, enc-all}
+use Rattle.secure_cipher.proofs.CbcLoop.{Laid, laid-none, laid-more, laid-all, encRest, enc-more, enc-none, enc-all}
 use Rattle.secure_cipher.proofs.cipher.encrypt_blocks.Statement.{statement}
 use Rattle.secure_cipher.proofs.cipher.encrypt_blocks.Tie as tie
 
@@ -40,8 +40,8 @@ loop-again c =
       (
         search needs,
         λ k h.
-            laid-more b (encRest k p n (l .i + 1) b) _ ((l .i + 1) * 16) m (omega arith) (omega arith)
-            (enc-more k p n (l .i) (l .v) b (d .before .loop-test .taken) (enciphered _ _ k _ b (s .forward-table .ensures) h (e .encrypt-with .ensures) ∙ ap (E k) x))
+            laid-more b _ _ ((l .i + 1) * 16) m (omega arith) (omega arith)
+            (cc (enc-more k p n (l .i) (l .v) b (d .before .loop-test .taken) (enciphered _ _ k _ b (s .forward-table .ensures) h (e .encrypt-with .ensures) ∙ ap (E k) x)))
             (c .before .before .put .ensures) (l .inv .1 .1 k h),
       ),
     )

@@ -1,6 +1,6 @@
 -- `secure_cipher::cipher::encrypt_data` meets its contract: where there is room, the blocks and their number.
 -- Assumes nothing.
-use Prim.Native.Nat.{ℕ, _+_, _*_, _/_}
+use Prim.Native.Nat.{_+_, _*_, _/_}
 use native.Mathlib.Omega.{arith}
 use borrow.Author.Needs.{needs}
 use lib.ListN.{length}

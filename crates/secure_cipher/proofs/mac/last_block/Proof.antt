@@ -1,6 +1,6 @@
 -- `secure_cipher::mac::last_block` meets its contract: a list of whole blocks gets nothing added.
 -- Assumes nothing.
-use Prim.Native.Nat.{ℕ, _-_}
+use Prim.Native.Nat.{_-_}
 use mathlib.Core.Path.{_∙_}
 use native.Mathlib.Omega.{arith}
 use borrow.Author.Needs.{needs}
@@ -12,10 +12,10 @@ use Rattle.secure_cipher.proofs.mac.last_block.Tie as tie
 returns : tie.Need-returns
 returns c =
     let s = c .before .before .before .args .s .now in
-    c .block-at .ensures ∙ padMac-full s (length s - 16) (omega arith) (c .before .if1 .taken)
+    c .block-at .ensures ∙ padMac-full s (length s - 16) (omega arith) (omega arith)
 
 returns-2 : tie.Need-returns-2
-returns-2 c = c .last-block .ensures ∙ padMac-last (c .before .before .before .args .s .now) (c .before .if1 .left)
+returns-2 c = c .last-block .ensures ∙ padMac-last (c .before .before .before .args .s .now) (λ h. omega arith)
 
 pub last-block-spec : {M : Type 1} → statement M
 last-block-spec = tie.close (tie.spec (λ c. omega arith) (λ c κs. omega arith) (λ c κs. search needs) returns returns-2)

@@ -1,13 +1,11 @@
 -- `secure_cipher::pad::pad_mac` meets its contract: nothing is added to whole blocks, and other bytes are padded as data.
 -- Assumes nothing.
-use mathlib.Core.Path.{_≡_, refl, sym, ap, _∙_}
-use mathlib.Core.List.{List}
-use Prim.Native.Nat.{ℕ}
+use mathlib.Core.Path.{refl, sym, ap, _∙_}
 use native.Mathlib.Omega.{arith}
 use borrow.Author.Needs.{needs}
 use lib.ListN.{length}
 use Rattle.laws.specs.Over.{write}
-use Rattle.secure_cipher.specs.Pad.{padMac, fits, after, lengthAnswer}
+use Rattle.secure_cipher.specs.Pad.{padMac}
 use Rattle.secure_cipher.proofs.PadLaws.{padMac-whole, padMac-part, fits-short, fits-good}
 use Rattle.secure_cipher.proofs.pad.pad_mac.Statement.{statement}
 use Rattle.secure_cipher.proofs.pad.pad_mac.Tie as tie
@@ -16,20 +14,20 @@ returns : tie.Need-returns
 returns c =
     let s = c .before .before in
     let a = s .before .before .before .before .before .args in
-    rw (padMac-part (a .«data» .now) (s .before .before .if1 .taken)) (s .pad-data .ensures .0, s .pad-data .ensures .1)
+    rw (padMac-part (a .«data» .now) (λ h. omega arith)) (s .pad-data .ensures .0, s .pad-data .ensures .1)
 
 returns-2 : tie.Need-returns-2
 returns-2 c =
     let a = c .before .before .before .before .args in
     let x = a .«data» .now in
-    (fits-short (padMac x) (a .out .now) (length x) (sym (ap length (padMac-whole x (c .before .if1 .left)))) (c .if2 .taken), refl)
+    (fits-short (padMac x) (a .out .now) (length x) (sym (ap length (padMac-whole x (omega arith)))) (c .if2 .taken), refl)
 
 returns-3 : tie.Need-returns-3
 returns-3 c =
     let s = c .before .before in
     let a = s .before .before .before .before .before .before .args in
     let x = a .«data» .now in
-    let e = padMac-whole x (s .before .before .before .if1 .left) in
+    let e = padMac-whole x (omega arith) in
     (fits-good (padMac x) (a .out .now) (length x) (sym (ap length e)) (s .before .before .if2 .left), s .copy .ensures ∙ ap (write (a .out .now) 0) (sym e))
 
 pub pad-mac-spec : {M : Type 1} → statement M

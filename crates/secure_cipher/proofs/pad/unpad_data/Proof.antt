@@ -1,7 +1,7 @@
 -- `secure_cipher::pad::unpad_data` meets its contract: unpadding the first i bytes is unpadding them all.
 -- Assumes nothing.
 use mathlib.Core.Path.{_≡_, refl, _∙_}
-use Prim.Native.Nat.{ℕ, _≤_}
+use Prim.Native.Nat.{_≤_}
 use native.Mathlib.Omega.{arith}
 use lib.ListN.{length}
 use Rattle.secure_cipher.specs.Pad.{unpadFrom, unpad}
