@@ -1,0 +1,2 @@
+mod CarriedLaws
+mod Shaken
