@@ -1,2 +1,6 @@
 mod CarriedLaws
 mod Shaken
+mod Delivered
+mod Ends
+mod TalkLaws
+pub mod Demand3
