@@ -1,25 +1,24 @@
 -- One sealed frame from one end to the other: it opens as it was sent. Over keys and a start value; no session here.
 -- Assumes nothing.
 use mathlib.Core.Bool.{Bool, true, false}
-use mathlib.Core.List.{List, [], _∷_, _++_}
+use mathlib.Core.List.{List, _++_}
 use mathlib.Core.Option.{some}
-use mathlib.Core.Path.{_≡_, refl, sym, ap, _∙_}
+use mathlib.Core.Path.{_≡_, refl, ap, _∙_}
 use Prim.Native.Nat.{ℕ, _+_, _-_, _*_, _/_, _≤_}
 use native.Mathlib.Omega.{arith}
 use borrow.Author.Tests.{le-ltb}
-use lib.ListN.{length, take, drop, length-append, length-replicate}
+use lib.ListN.{length, drop, length-append, length-replicate}
 use lib.Seq.{take-at, take-append-le}
 use Rattle.laws.specs.Answer.{Answer.given}
 use Rattle.laws.specs.Blocks.{Block}
 use Rattle.laws.specs.Bytes.{compl, zeros}
 use Rattle.laws.specs.Over.{write}
 use Rattle.laws.proofs.ByteLists.{eql-refl, length-compl, bytes-compl}
-use Rattle.laws.proofs.Overwrite.{length-write, take-write}
 use Rattle.packet_head.specs.Trailer.{Tail}
 use Rattle.secure_keys.specs.declared.crypto.SessionKeys.{SessionKeys}
 use Rattle.secure_keys.proofs.KeysLaws.{GoodKeys}
 use Rattle.secure_cipher.specs.Pad.{tail80, padData}
-use Rattle.secure_cipher.specs.Cbc.{Opening, reveal, laid, openedInto}
+use Rattle.secure_cipher.specs.Cbc.{reveal, laid, openedInto}
 use Rattle.secure_cipher.proofs.PadLaws.{length-padData}
 use Rattle.secure_cipher.proofs.MacLaws.{mac-steps}
 use Rattle.secure_cipher.proofs.CbcLaws.{reveal-hide}
@@ -27,9 +26,9 @@ use Rattle.secure_session.specs.Session.{isSecure}
 use Rattle.secure_session.specs.declared.session.State.{State}
 use Rattle.secure_session.specs.declared.session.State.the-variants.{Secure}
 use Rattle.secure_seal.specs.declared.seal.Direction.{Direction}
-use Rattle.secure_seal.specs.Seal.{Asked, dataLen, dataOf, totalOf, bodyWith, SealedFrame, sealedFrame, SealRun, sealRun}
+use Rattle.secure_seal.specs.Seal.{Asked, dataLen, dataOf, totalOf, bodyWith, SealedFrame, sealedFrame, sealRun}
 use Rattle.secure_seal.proofs.SealLaws.{Sealable, stepsFor, type-mac, type-encrypted, length-dataLen, fieldsWith, dataIn, macIn, length-body, frame-length, data-alone, body-alone, mac-alone, reads-alone}
-use Rattle.secure_unseal.specs.Unseal.{Checked, check, openData, Place, UnsealRun, unsealPlain, unsealOpened, unsealHidden, unsealParsed, unsealRun}
+use Rattle.secure_unseal.specs.Unseal.{check, openData, Place, UnsealRun, unsealPlain, unsealOpened, unsealHidden, unsealParsed, unsealRun}
 use Rattle.secure_unseal.specs.Lookup.{shown}
 
 -- ---- the seal accepts what is within limits and buffers

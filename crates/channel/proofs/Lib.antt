@@ -4,3 +4,5 @@ mod Delivered
 mod Ends
 mod TalkLaws
 pub mod Demand3
+pub mod Limits
+pub mod Sample

@@ -1,7 +1,7 @@
 -- The framed handshake is the handshake of the session's own calls: it succeeds, and leaves the ends ready, both ways.
 -- Assumes nothing.
 use mathlib.Core.List.{List, _++_}
-use mathlib.Core.Path.{_≡_, refl, sym, ap, _∙_}
+use mathlib.Core.Path.{_≡_, refl, sym, _∙_, subst}
 use Prim.Native.Nat.{ℕ}
 use native.Mathlib.Omega.{arith}
 use lib.ListN.{length, take, drop, length-append}
@@ -14,8 +14,8 @@ use Rattle.secure_session.specs.Hand.{Hand, shake}
 use Rattle.secure_session.specs.declared.session.Session.{Session}
 use Rattle.secure_session.proofs.Shaken as session
 use Rattle.secure_session.proofs.Shaken.{Ready}
-use Rattle.channel.specs.Carried.{WireFits, carried}
-use Rattle.channel.specs.Handshake.{Wires, WiresFit, Apart, Random, shakeIn, Succeeded}
+use Rattle.channel.specs.Carried.{carried}
+use Rattle.channel.specs.Handshake.{Wires, WiresFit, Apart, Random, shakeIn, Given, Succeeded}
 use Rattle.channel.proofs.CarriedLaws.{carried-eq}
 
 apart : (c r : Session) → Apart c r → session.Apart c r
@@ -107,11 +107,14 @@ module _ (w : Wires) (c r : Session) (a b : List ℕ) (hw : WiresFit w) (h : Apa
 
   pub succeeded : Succeeded (shakeIn w c r a b)
   succeeded =
-      let e = framed-eq ∙ session.shake-eq c r a b ends in
+      let e = sym (framed-eq ∙ session.shake-eq c r a b ends) in
       record {
-        challenged = ap (λ (x : Hand). x .challenged) e;
-        accepted = ap (λ (x : Hand). x .accepted) e;
-        confirmed = ap (λ (x : Hand). x .confirmed) e;
+        challenged = subst (λ (x : Hand). Given (x .challenged)) e tt;
+        client = subst (λ (x : Hand). Given (x .client)) e tt;
+        accepted = subst (λ (x : Hand). Given (x .accepted)) e tt;
+        server = subst (λ (x : Hand). Given (x .server)) e tt;
+        first = subst (λ (x : Hand). Given (x .first)) e tt;
+        confirmed = subst (λ (x : Hand). Given (x .confirmed)) e tt;
         controller = shaken .sender;
         reader = shaken .taker;
       }

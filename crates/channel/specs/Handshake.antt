@@ -4,7 +4,7 @@ use Prim.Native.Nat.{ℕ}
 use mathlib.Core.List.{List, _++_}
 use mathlib.Core.Path.{_≡_}
 use lib.ListN.{length, take, drop}
-use Rattle.laws.specs.Answer.{Answer.given}
+use Rattle.laws.specs.Answer.{Answer, Answer.given, Answer.refused}
 use Rattle.laws.specs.Bytes.{Bytes}
 use Rattle.laws.specs.Blocks.{Block}
 use Rattle.secure_session.specs.Hand.{Hand}
@@ -66,10 +66,18 @@ pub record WiresFit (w : Wires) : Type 0 where
   pub scrypt : WireFits (w .scrypt) 16
   pub rmac : WireFits (w .rmac) 16
 
--- ---- it succeeded: no call was refused, and both ends are Secure
+-- ---- it succeeded: none of the six calls was refused, and both ends are Secure
+
+abbrev pub Given : {A : Type 0} → Answer A → Type 0
+Given (given a) = Unit {0}
+Given (refused n vs) = ⊥
+
 pub record Succeeded (h : Hand) : Type 0 where
-  pub challenged : h .challenged ≡ given tt
-  pub accepted : h .accepted ≡ given tt
-  pub confirmed : h .confirmed ≡ given tt
+  pub challenged : Given (h .challenged)
+  pub client : Given (h .client)
+  pub accepted : Given (h .accepted)
+  pub server : Given (h .server)
+  pub first : Given (h .first)
+  pub confirmed : Given (h .confirmed)
   pub controller : h .controller .state ≡ Secure
   pub reader : h .reader .state ≡ Secure
