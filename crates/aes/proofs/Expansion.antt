@@ -1,11 +1,11 @@
 -- KEYEXPANSION, four words at a time: the words 4 r to 4 r + 3 are the round key r.
 -- Assumes nothing.
 use mathlib.Core.Path.{_≡_, refl, sym, ap, ap₂, subst, _∙_}
-use mathlib.Core.List.{List, [], _∷_, _++_, append-assoc}
-use Prim.Native.Nat.{ℕ, zero, suc, _+_, _-_, _*_, _/_, _%_, _<_, _≤_}
+use mathlib.Core.List.{List, _++_, append-assoc}
+use Prim.Native.Nat.{ℕ, suc, _+_, _-_, _*_, _/_, _%_, _<_, _≤_}
 use native.Mathlib.Numerals.{add-one}
 use native.Mathlib.Omega.{arith}
-use lib.ListN.{length, take, drop, getD, length-append}
+use lib.ListN.{length, take, drop, getD}
 use lib.Seq.{drop-append-add, take-all, take-at, length-take-le, paste, length-paste, take-paste}
 use Rattle.laws.specs.Table.{blockOf}
 use Rattle.laws.specs.Bytes.{xorl}

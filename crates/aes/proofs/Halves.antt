@@ -1,16 +1,15 @@
 -- Two halves, made one from the other, are a step of CIPHER or of INVCIPHER on the whole state.
 -- Assumes nothing.
-use mathlib.Core.Path.{_≡_, refl, ap, ap₂, _∙_}
+use mathlib.Core.Path.{_≡_, ap}
 use mathlib.Core.List.{List, [], _∷_, _++_}
-use Prim.Native.Nat.{ℕ, _+_, _*_, _/_, _%_}
-use native.Mathlib.Nat.{add-assoc, add-zero}
-use native.Mathlib.Omega.{arith}
+use Prim.Native.Nat.{ℕ, _+_, _*_}
+use native.Mathlib.Nat.{add-assoc}
 use lib.ListN.{getD}
 use Rattle.laws.specs.Bytes.{xorl}
 use Rattle.laws.specs.Table.{blockOf}
-use Rattle.aes_field.specs.Field.{_⊕_, _•_}
+use Rattle.aes_field.specs.Field.{_⊕_}
 use Rattle.aes_field.specs.Packed.{unpacked, columns}
-use Rattle.aes_field.proofs.Linear.{m, w}
+use Rattle.aes_field.proofs.Linear.{mixByte, unmixByte}
 use Rattle.aes.specs.State.{subBytes, shiftRows, invShiftRows, below, mixColumns, invMixColumns, addRoundKey}
 use Rattle.aes.specs.Halves.{forth, back, part}
 
@@ -25,24 +24,24 @@ module _ (t k : List ℕ) (r : ℕ) where
   add-halves s = ap (λ (l : List ℕ). xorl (part s 0) (part k (16 * r)) ++ xorl (part s 8) l) (later k r)
 
   module _ (x y : ℕ) where
-    pub round-halves : xorl (columns m (forth t (unpacked 8 x) (unpacked 8 y))) (part k (16 * r))
-        ++ xorl (columns m (forth t (unpacked 8 y) (unpacked 8 x))) (part k (16 * r + 8))
+    pub round-halves : xorl (columns mixByte (forth t (unpacked 8 x) (unpacked 8 y))) (part k (16 * r))
+        ++ xorl (columns mixByte (forth t (unpacked 8 y) (unpacked 8 x))) (part k (16 * r + 8))
         ≡ addRoundKey (mixColumns (shiftRows (subBytes t (unpacked 8 x ++ unpacked 8 y)))) k r
     unfolding xorl part forth columns unpacked blockOf subBytes shiftRows below mixColumns addRoundKey _⊕_
     round-halves =
-        ap (λ (l : List ℕ). xorl (columns m (forth t (unpacked 8 x) (unpacked 8 y))) (part k (16 * r)) ++ xorl (columns m (forth t (unpacked 8 y) (unpacked 8 x))) l) (later k r)
+        ap (λ (l : List ℕ). xorl (columns mixByte (forth t (unpacked 8 x) (unpacked 8 y))) (part k (16 * r)) ++ xorl (columns mixByte (forth t (unpacked 8 y) (unpacked 8 x))) l) (later k r)
 
     pub last-halves : xorl (forth t (unpacked 8 x) (unpacked 8 y)) (part k (16 * r)) ++ xorl (forth t (unpacked 8 y) (unpacked 8 x)) (part k (16 * r + 8))
         ≡ addRoundKey (shiftRows (subBytes t (unpacked 8 x ++ unpacked 8 y))) k r
     unfolding xorl part forth unpacked blockOf subBytes shiftRows addRoundKey _⊕_
     last-halves = ap (λ (l : List ℕ). xorl (forth t (unpacked 8 x) (unpacked 8 y)) (part k (16 * r)) ++ xorl (forth t (unpacked 8 y) (unpacked 8 x)) l) (later k r)
 
-    pub unround-halves : columns w (xorl (back t (unpacked 8 x) (unpacked 8 y)) (part k (16 * r)))
-        ++ columns w (xorl (back t (unpacked 8 y) (unpacked 8 x)) (part k (16 * r + 8)))
+    pub unround-halves : columns unmixByte (xorl (back t (unpacked 8 x) (unpacked 8 y)) (part k (16 * r)))
+        ++ columns unmixByte (xorl (back t (unpacked 8 y) (unpacked 8 x)) (part k (16 * r + 8)))
         ≡ invMixColumns (addRoundKey (subBytes t (invShiftRows (unpacked 8 x ++ unpacked 8 y))) k r)
     unfolding xorl part back columns unpacked blockOf subBytes invShiftRows below invMixColumns addRoundKey _⊕_
     unround-halves =
-        ap (λ (l : List ℕ). columns w (xorl (back t (unpacked 8 x) (unpacked 8 y)) (part k (16 * r))) ++ columns w (xorl (back t (unpacked 8 y) (unpacked 8 x)) l)) (later k r)
+        ap (λ (l : List ℕ). columns unmixByte (xorl (back t (unpacked 8 x) (unpacked 8 y)) (part k (16 * r))) ++ columns unmixByte (xorl (back t (unpacked 8 y) (unpacked 8 x)) l)) (later k r)
 
     pub unlast-halves : xorl (back t (unpacked 8 x) (unpacked 8 y)) (part k (16 * r)) ++ xorl (back t (unpacked 8 y) (unpacked 8 x)) (part k (16 * r + 8))
         ≡ addRoundKey (subBytes t (invShiftRows (unpacked 8 x ++ unpacked 8 y))) k r

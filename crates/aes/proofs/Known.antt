@@ -6,7 +6,6 @@ use mathlib.Core.List.{List, [], _∷_}
 use Rattle.laws.specs.Bytes.{xorl}
 use Rattle.laws.specs.Table.{blockOf}
 use Rattle.aes_field.specs.Field.{_⊕_, xtime, bitsTimes, _•_}
-use Rattle.aes_field.specs.Sbox.{SBOX}
 use Rattle.aes_field.proofs.Tables.{forward, forward-table}
 use Rattle.aes.specs.State.{subBytes, shiftRows, below, mixColumns, addRoundKey}
 use Rattle.aes.specs.KeyExpansion.{power, words, keyExpansion}

@@ -1,7 +1,7 @@
 -- Each step of a round gives a block, and is undone by its inverse.
 -- Assumes nothing.
 use mathlib.Core.Path.{_≡_, refl, sym, ap, _∙_}
-use mathlib.Core.List.{List, [], _∷_}
+use mathlib.Core.List.{List, _∷_}
 use Prim.Native.Nat.{ℕ, _+_, _*_, _/_, _%_, _<_}
 use native.Mathlib.Decide.{decLt}
 use native.Mathlib.Omega.{arith}
@@ -12,10 +12,10 @@ use Rattle.laws.specs.Table.{blockOf}
 use Rattle.laws.specs.Bytes.{Bytes}
 use Rattle.laws.specs.Blocks.{Block}
 use Rattle.laws.proofs.Fill.{length-blockOf, getD-blockOf, whole}
-use Rattle.aes_field.specs.Field.{_⊕_, _•_}
+use Rattle.aes_field.specs.Field.{_⊕_}
 use Rattle.aes_field.specs.Sbox.{SBOX, INVSBOX}
 use Rattle.aes_field.proofs.Sums.{⊕-cancel, ⊕-lt}
-use Rattle.aes_field.proofs.Linear.{m, w, unmix-mix, mix-unmix, •-lt}
+use Rattle.aes_field.proofs.Linear.{mixByte, unmixByte, unmix-mix, mix-unmix, •-lt}
 use Rattle.aes_field.proofs.Tables.{SBOX-lt, INVSBOX-lt, SBOX-undone, INVSBOX-undone}
 use Rattle.aes.specs.State.{subBytes, shiftRows, invShiftRows, below, mixColumns, invMixColumns, addRoundKey}
 
@@ -57,12 +57,12 @@ below-lt s b i k = b .bytes (4 * (i / 4) + (i % 4 + k) % 4)
 
 pub mix-block : (s : List ℕ) → Block s → Block (mixColumns s)
 unfolding mixColumns
-mix-block s b = is-block _ (λ i. ⊕-lt (⊕-lt (⊕-lt (•-lt 2 (below-lt s b i 0)) (•-lt 3 (below-lt s b i 1))) (below-lt s b i 2)) (below-lt s b i 3))
+mix-block s b = is-block _ (λ i. ⊕-lt (⊕-lt (⊕-lt (•-lt _ (below-lt s b i 0)) (•-lt _ (below-lt s b i 1))) (below-lt s b i 2)) (below-lt s b i 3))
 
 pub unmix-block : (s : List ℕ) → Block s → Block (invMixColumns s)
 unfolding invMixColumns
 unmix-block s b =
-    is-block _ (λ i. ⊕-lt (⊕-lt (⊕-lt (•-lt 14 (below-lt s b i 0)) (•-lt 11 (below-lt s b i 1))) (•-lt 13 (below-lt s b i 2))) (•-lt 9 (below-lt s b i 3)))
+    is-block _ (λ i. ⊕-lt (⊕-lt (⊕-lt (•-lt _ (below-lt s b i 0)) (•-lt _ (below-lt s b i 1))) (•-lt _ (below-lt s b i 2))) (•-lt _ (below-lt s b i 3)))
 
 pub add-block : (s w : List ℕ) (r : ℕ) → Block s → Bytes w → Block (addRoundKey s w r)
 unfolding addRoundKey
@@ -104,11 +104,11 @@ cons p q = λ i. p i ∷ q i
 
 -- a column, by the places of its bytes
 col : (s : List ℕ) → Block s → (p q r t : ℕ)
-    → (let g : ℕ → ℕ = λ i. getD s i 0 in w (m (g p) (g q) (g r) (g t)) (m (g q) (g r) (g t) (g p)) (m (g r) (g t) (g p) (g q)) (m (g t) (g p) (g q) (g r)) ≡ g p)
+    → (let g : ℕ → ℕ = λ i. getD s i 0 in unmixByte (mixByte (g p) (g q) (g r) (g t)) (mixByte (g q) (g r) (g t) (g p)) (mixByte (g r) (g t) (g p) (g q)) (mixByte (g t) (g p) (g q) (g r)) ≡ g p)
 col s b p q r t = unmix-mix (getD s p 0) (getD s q 0) (getD s r 0) (getD s t 0) (b .bytes p) (b .bytes q) (b .bytes r) (b .bytes t)
 
 uncol : (s : List ℕ) → Block s → (p q r t : ℕ)
-    → (let g : ℕ → ℕ = λ i. getD s i 0 in m (w (g p) (g q) (g r) (g t)) (w (g q) (g r) (g t) (g p)) (w (g r) (g t) (g p) (g q)) (w (g t) (g p) (g q) (g r)) ≡ g p)
+    → (let g : ℕ → ℕ = λ i. getD s i 0 in mixByte (unmixByte (g p) (g q) (g r) (g t)) (unmixByte (g q) (g r) (g t) (g p)) (unmixByte (g r) (g t) (g p) (g q)) (unmixByte (g t) (g p) (g q) (g r)) ≡ g p)
 uncol s b p q r t = mix-unmix (getD s p 0) (getD s q 0) (getD s r 0) (getD s t 0) (b .bytes p) (b .bytes q) (b .bytes r) (b .bytes t)
 
 mix-bytes : (s : List ℕ) → Block s → invMixColumns (mixColumns s) ≡ blockOf (λ i. getD s i 0)

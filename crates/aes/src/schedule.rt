@@ -18,39 +18,31 @@ fn sub(t: &[u8; 256], a: u8) -> u8
 fn next(t: &[u8; 256], k: [u8; 16], c: u8) -> [u8; 16]
     ensures { λ r. ⌜ r ≡ nextKey (now (t .entry)) c k ⌝ }
 {
-    let a0 = k[0] ^ (sub(t, k[13]) ^ c);
-    let a1 = k[1] ^ sub(t, k[14]);
-    let a2 = k[2] ^ sub(t, k[15]);
-    let a3 = k[3] ^ sub(t, k[12]);
-    let b0 = k[4] ^ a0;
-    let b1 = k[5] ^ a1;
-    let b2 = k[6] ^ a2;
-    let b3 = k[7] ^ a3;
-    let c0 = k[8] ^ b0;
-    let c1 = k[9] ^ b1;
-    let c2 = k[10] ^ b2;
-    let c3 = k[11] ^ b3;
-    let d0 = k[12] ^ c0;
-    let d1 = k[13] ^ c1;
-    let d2 = k[14] ^ c2;
-    let d3 = k[15] ^ c3;
+    let a = [
+        k[0] ^ (sub(t, k[13]) ^ c),
+        k[1] ^ sub(t, k[14]),
+        k[2] ^ sub(t, k[15]),
+        k[3] ^ sub(t, k[12]),
+    ];
+    let b = [k[4] ^ a[0], k[5] ^ a[1], k[6] ^ a[2], k[7] ^ a[3]];
+    let d = [k[8] ^ b[0], k[9] ^ b[1], k[10] ^ b[2], k[11] ^ b[3]];
     [
-        a0,
-        a1,
-        a2,
-        a3,
-        b0,
-        b1,
-        b2,
-        b3,
-        c0,
-        c1,
-        c2,
-        c3,
-        d0,
-        d1,
-        d2,
-        d3,
+        a[0],
+        a[1],
+        a[2],
+        a[3],
+        b[0],
+        b[1],
+        b[2],
+        b[3],
+        d[0],
+        d[1],
+        d[2],
+        d[3],
+        k[12] ^ d[0],
+        k[13] ^ d[1],
+        k[14] ^ d[2],
+        k[15] ^ d[3],
     ]
 }
 

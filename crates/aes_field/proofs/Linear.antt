@@ -1,7 +1,7 @@
 -- x times a byte is linear, and the products by the constants of MixColumns are sums of its powers.
 -- Assumes nothing.
 use mathlib.Core.Path.{_≡_, refl, sym, ap, ap₂, _∙_}
-use Prim.Native.Nat.{ℕ, zero, suc, _+_, _*_, _/_, _%_, _^_, _<_}
+use Prim.Native.Nat.{ℕ, zero, suc, _*_, _/_, _%_, _<_}
 use native.Mathlib.Nat.{add-zero}
 use native.Mathlib.Omega.{arith}
 use lib.Dec.{lit<}
@@ -47,9 +47,6 @@ pub xtime-lt : {a : ℕ} → a < 256 → xtime a < 256
 unfolding xtime
 xtime-lt {a} h = ⊕-lt (omega arith) (omega arith)
 
-⊕-lt4 : {a b c d : ℕ} → a < 256 → b < 256 → c < 256 → d < 256 → a ⊕ b ⊕ c ⊕ d < 256
-⊕-lt4 ha hb hc hd = ⊕-lt (⊕-lt (⊕-lt ha hb) hc) hd
-
 pub ruleset zeros = (zero-⊕, ⊕-zero)
 
 pub times2 : (a : ℕ) → 2 • a ≡ xtime a
@@ -78,19 +75,6 @@ times14 a = simp zeros
 
 pub mixed : (a b c d : ℕ) → a < 256 → b < 256 → xtime (a ⊕ b) ⊕ b ⊕ c ⊕ d ≡ 2 • a ⊕ 3 • b ⊕ c ⊕ d
 mixed a b c d ha hb = simp (times2, times3, xtime-⊕ a b ha hb, sums)
-
-pub unmixed : (a b c d : ℕ) → a < 256 → b < 256 → c < 256 → d < 256
-    → xtime (xtime (xtime (a ⊕ b ⊕ c ⊕ d) ⊕ a ⊕ c) ⊕ a ⊕ b) ⊕ b ⊕ c ⊕ d ≡ 14 • a ⊕ 11 • b ⊕ 13 • c ⊕ 9 • d
-unmixed a b c d ha hb hc hd =
-    let xa : xtime a < 256 = xtime-lt ha in
-    let xb : xtime b < 256 = xtime-lt hb in
-    let xc : xtime c < 256 = xtime-lt hc in
-    let xd : xtime d < 256 = xtime-lt hd in
-    let ya : xtime (xtime a) < 256 = xtime-lt xa in
-    let yb : xtime (xtime b) < 256 = xtime-lt xb in
-    let yc : xtime (xtime c) < 256 = xtime-lt xc in
-    let yd : xtime (xtime d) < 256 = xtime-lt xd in
-    simp (times9, times11, times13, times14, xtime-⊕, ⊕-lt, ⊕-lt4) (simp sums)
 
 bitTimes-⊕ : (d x y : ℕ) → bitTimes d (x ⊕ y) ≡ bitTimes d x ⊕ bitTimes d y
 bitTimes-⊕ zero x y = sym (zero-⊕ 0)
@@ -168,14 +152,15 @@ q2 h = xtime-lt (xtime-lt h)
 q3 : {v : ℕ} → v < 256 → xtime (xtime (xtime v)) < 256
 q3 h = xtime-lt (q2 h)
 
-abbrev pub m : ℕ → ℕ → ℕ → ℕ → ℕ
-m a b c d = 2 • a ⊕ 3 • b ⊕ c ⊕ d
+-- a byte of MIXCOLUMNS and of INVMIXCOLUMNS, from the one in its place and the three below it
+abbrev pub mixByte : ℕ → ℕ → ℕ → ℕ → ℕ
+mixByte a b c d = 2 • a ⊕ 3 • b ⊕ c ⊕ d
 
-abbrev pub w : ℕ → ℕ → ℕ → ℕ → ℕ
-w a b c d = 14 • a ⊕ 11 • b ⊕ 13 • c ⊕ 9 • d
+abbrev pub unmixByte : ℕ → ℕ → ℕ → ℕ → ℕ
+unmixByte a b c d = 14 • a ⊕ 11 • b ⊕ 13 • c ⊕ 9 • d
 
 pub unmix-mix : (a b c d : ℕ) → a < 256 → b < 256 → c < 256 → d < 256
-    → w (m a b c d) (m b c d a) (m c d a b) (m d a b c) ≡ a
+    → unmixByte (mixByte a b c d) (mixByte b c d a) (mixByte c d a b) (mixByte d a b c) ≡ a
 unmix-mix a b c d ha hb hc hd =
     ap₂ _⊕_ (ap₂ _⊕_ (ap₂ _⊕_
     (•-⊕4 14 (2 • a) (3 • b) c d (•-lt 2 ha) (•-lt 3 hb) hc hd)
@@ -190,7 +175,7 @@ unmix-mix a b c d ha hb hc hd =
     ∙ simp zeros
 
 pub mix-unmix : (a b c d : ℕ) → a < 256 → b < 256 → c < 256 → d < 256
-    → m (w a b c d) (w b c d a) (w c d a b) (w d a b c) ≡ a
+    → mixByte (unmixByte a b c d) (unmixByte b c d a) (unmixByte c d a b) (unmixByte d a b c) ≡ a
 mix-unmix a b c d ha hb hc hd =
     ap₂ _⊕_ (ap₂ _⊕_ (ap₂ _⊕_
     (•-⊕4 2 (14 • a) (11 • b) (13 • c) (9 • d) (•-lt 14 ha) (•-lt 11 hb) (•-lt 13 hc) (•-lt 9 hd))

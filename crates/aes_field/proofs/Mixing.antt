@@ -1,27 +1,26 @@
 -- MIXCOLUMNS and INVMIXCOLUMNS of two packed columns, from the columns turned by one byte and by two.
 -- Assumes nothing.
 use mathlib.Core.Path.{_≡_, refl, sym, ap, ap₂, _∙_}
-use mathlib.Core.List.{List, [], _∷_, map}
-use Prim.Native.Nat.{ℕ, zero, suc, _/_, _%_, _^_, _<_}
+use mathlib.Core.List.{List, map}
+use Prim.Native.Nat.{ℕ, _%_, _^_, _<_}
 use lib.Bits.{bitXor}
-use lib.ListN.{length, getD}
 use Rattle.laws.specs.Bytes.{Bytes}
-use Rattle.aes_field.specs.Field.{_⊕_, xtime, _•_}
+use Rattle.aes_field.specs.Field.{_⊕_, xtime}
 use Rattle.aes_field.specs.Packed.{packed, unpacked, columns}
 use Rattle.aes_field.proofs.Sums.{⊕-assoc, ⊕-lt}
-use Rattle.aes_field.proofs.Linear.{m, w, sums, mixed, times2, times3, times9, times11, times13, times14, xtime-⊕, xtime-lt, •-lt, ⊕-back}
+use Rattle.aes_field.proofs.Linear.{mixByte, unmixByte, sums, mixed, times2, times3, times9, times11, times13, times14, xtime-⊕, xtime-lt, •-lt, ⊕-back}
 use Rattle.aes_field.proofs.Packing.{eight, eight-bytes, byte, after, packed-xor, packed-unpacked, unpacked-packed, unpacked-bytes}
 
 -- ---- a byte of each
 
-mix-byte : (a b c d : ℕ) → a < 256 → b < 256 → xtime (a ⊕ b) ⊕ b ⊕ (c ⊕ d) ≡ m a b c d
+mix-byte : (a b c d : ℕ) → a < 256 → b < 256 → xtime (a ⊕ b) ⊕ b ⊕ (c ⊕ d) ≡ mixByte a b c d
 mix-byte a b c d p q = sym (⊕-assoc (xtime (a ⊕ b) ⊕ b) c d) ∙ mixed a b c d p q
 
 twice-twice-⊕ : (a b : ℕ) → a < 256 → b < 256 → xtime (xtime (a ⊕ b)) ≡ xtime (xtime a) ⊕ xtime (xtime b)
 twice-twice-⊕ a b p q = ap xtime (xtime-⊕ a b p q) ∙ xtime-⊕ (xtime a) (xtime b) (xtime-lt p) (xtime-lt q)
 
 unmix-byte : (a b c d : ℕ) → a < 256 → b < 256 → c < 256 → d < 256
-    → m (a ⊕ xtime (xtime (a ⊕ c))) (b ⊕ xtime (xtime (b ⊕ d))) (c ⊕ xtime (xtime (c ⊕ a))) (d ⊕ xtime (xtime (d ⊕ b))) ≡ w a b c d
+    → mixByte (a ⊕ xtime (xtime (a ⊕ c))) (b ⊕ xtime (xtime (b ⊕ d))) (c ⊕ xtime (xtime (c ⊕ a))) (d ⊕ xtime (xtime (d ⊕ b))) ≡ unmixByte a b c d
 unmix-byte a b c d ha hb hc hd =
     let xa : xtime a < 256 = xtime-lt ha in
     let xb : xtime b < 256 = xtime-lt hb in
@@ -35,7 +34,7 @@ unmix-byte a b c d ha hb hc hd =
     let bd : xtime (xtime (b ⊕ d)) ≡ xtime (xtime b) ⊕ xtime (xtime d) = twice-twice-⊕ b d hb hd in
     let ca : xtime (xtime (c ⊕ a)) ≡ xtime (xtime c) ⊕ xtime (xtime a) = twice-twice-⊕ c a hc ha in
     let db : xtime (xtime (d ⊕ b)) ≡ xtime (xtime d) ⊕ xtime (xtime b) = twice-twice-⊕ d b hd hb in
-    (λ i. m (a ⊕ ac i) (b ⊕ bd i) (c ⊕ ca i) (d ⊕ db i))
+    (λ i. mixByte (a ⊕ ac i) (b ⊕ bd i) (c ⊕ ca i) (d ⊕ db i))
     ∙ simp (times2, times3, times9, times11, times13, times14, xtime-⊕, ⊕-lt) (simp (sums, ⊕-back))
 
 -- ---- two packed columns
@@ -61,7 +60,7 @@ module _ (x : ℕ) (h : x < 2 ^ 64) where
   unfolding unpacked columns
   turned-bytes = eight-bytes (below-lt 1) (below-lt 2) (below-lt 3) (below-lt 0) (below-lt 5) (below-lt 6) (below-lt 7) (below-lt 4)
 
-  mb : (i j k l : ℕ) → xtime (g i ⊕ g j) ⊕ g j ⊕ (g k ⊕ g l) ≡ m (g i) (g j) (g k) (g l)
+  mb : (i j k l : ℕ) → xtime (g i ⊕ g j) ⊕ g j ⊕ (g k ⊕ g l) ≡ mixByte (g i) (g j) (g k) (g l)
   mb i j k l = mix-byte (g i) (g j) (g k) (g l) (below-lt i) (below-lt j)
 
   lx : (i j : ℕ) → xtime (g i ⊕ g j) < 256
@@ -70,12 +69,12 @@ module _ (x : ℕ) (h : x < 2 ^ 64) where
   ly : (i j : ℕ) → xtime (g i ⊕ g j) ⊕ g j < 256
   ly i j = ⊕-lt (lx i j) (below-lt j)
 
-  lm : (i j k l : ℕ) → m (g i) (g j) (g k) (g l) < 256
+  lm : (i j k l : ℕ) → mixByte (g i) (g j) (g k) (g l) < 256
   lm i j k l = ⊕-lt (⊕-lt (⊕-lt (•-lt 2 (below-lt i)) (•-lt 3 (below-lt j))) (below-lt k)) (below-lt l)
 
   pub mix-two : (y z p q : ℕ) → y ≡ packed (columns (λ a b c d. b) (unpacked 8 x)) → z ≡ bitXor x y
       → p ≡ packed (map xtime (unpacked 8 z)) → q ≡ packed (columns (λ a b c d. c) (unpacked 8 z))
-      → unpacked 8 (bitXor (bitXor p y) q) ≡ columns m (unpacked 8 x)
+      → unpacked 8 (bitXor (bitXor p y) q) ≡ columns mixByte (unpacked 8 x)
   unfolding unpacked columns _⊕_
   mix-two y z p q ey ez ep eq =
       let zs : unpacked 8 z ≡ pairs =
@@ -93,7 +92,7 @@ module _ (x : ℕ) (h : x < 2 ^ 64) where
       (eight-bytes (ly 0 1) (ly 1 2) (ly 2 3) (ly 3 0) (ly 4 5) (ly 5 6) (ly 6 7) (ly 7 4))
       (eight-bytes (lt2 2 3) (lt2 3 0) (lt2 0 1) (lt2 1 2) (lt2 6 7) (lt2 7 4) (lt2 4 5) (lt2 5 6))
       ∙ (λ i. packed (eight (mb 0 1 2 3 i) (mb 1 2 3 0 i) (mb 2 3 0 1 i) (mb 3 0 1 2 i) (mb 4 5 6 7 i) (mb 5 6 7 4 i) (mb 6 7 4 5 i) (mb 7 4 5 6 i))))
-      ∙ unpacked-packed (columns m (unpacked 8 x)) (eight-bytes (lm 0 1 2 3) (lm 1 2 3 0) (lm 2 3 0 1) (lm 3 0 1 2) (lm 4 5 6 7) (lm 5 6 7 4) (lm 6 7 4 5) (lm 7 4 5 6))
+      ∙ unpacked-packed (columns mixByte (unpacked 8 x)) (eight-bytes (lm 0 1 2 3) (lm 1 2 3 0) (lm 2 3 0 1) (lm 3 0 1 2) (lm 4 5 6 7) (lm 5 6 7 4) (lm 6 7 4 5) (lm 7 4 5 6))
 
   -- ---- the inverse
 
@@ -114,12 +113,12 @@ module _ (x : ℕ) (h : x < 2 ^ 64) where
   le : (i j : ℕ) → e i j < 256
   le i j = ⊕-lt (below-lt i) (lf i j)
 
-  ub : (i j k l : ℕ) → m (e i k) (e j l) (e k i) (e l j) ≡ w (g i) (g j) (g k) (g l)
+  ub : (i j k l : ℕ) → mixByte (e i k) (e j l) (e k i) (e l j) ≡ unmixByte (g i) (g j) (g k) (g l)
   ub i j k l = unmix-byte (g i) (g j) (g k) (g l) (below-lt i) (below-lt j) (below-lt k) (below-lt l)
 
   pub unmix-two : (y u v s r : ℕ) → y ≡ packed (columns (λ a b c d. c) (unpacked 8 x)) → u ≡ packed (map xtime (unpacked 8 (bitXor x y)))
-      → v ≡ packed (map xtime (unpacked 8 u)) → s ≡ bitXor x v → unpacked 8 r ≡ columns m (unpacked 8 s)
-      → unpacked 8 r ≡ columns w (unpacked 8 x)
+      → v ≡ packed (map xtime (unpacked 8 u)) → s ≡ bitXor x v → unpacked 8 r ≡ columns mixByte (unpacked 8 s)
+      → unpacked 8 r ≡ columns unmixByte (unpacked 8 x)
   unfolding unpacked columns _⊕_
   unmix-two y u v s r ey eu ev es er =
       let zs : unpacked 8 (bitXor x y) ≡ across =
@@ -134,5 +133,5 @@ module _ (x : ℕ) (h : x < 2 ^ 64) where
       ∙ packed-xor (unpacked 8 x) (map xtime (map xtime across)) refl (unpacked-bytes 8 x) (eight-bytes (lf 0 2) (lf 1 3) (lf 2 0) (lf 3 1) (lf 4 6) (lf 5 7) (lf 6 4) (lf 7 5)))
       ∙ unpacked-packed (eight (e 0 2) (e 1 3) (e 2 0) (e 3 1) (e 4 6) (e 5 7) (e 6 4) (e 7 5))
       (eight-bytes (le 0 2) (le 1 3) (le 2 0) (le 3 1) (le 4 6) (le 5 7) (le 6 4) (le 7 5)) in
-      er ∙ ap (columns m) ss
+      er ∙ ap (columns mixByte) ss
       ∙ (λ i. eight (ub 0 1 2 3 i) (ub 1 2 3 0 i) (ub 2 3 0 1 i) (ub 3 0 1 2 i) (ub 4 5 6 7 i) (ub 5 6 7 4 i) (ub 6 7 4 5 i) (ub 7 4 5 6 i))

@@ -2,12 +2,12 @@
 -- Assumes nothing.
 use mathlib.Core.Path.{_≡_, refl, sym, ap, ap₂, _∙_}
 use mathlib.Core.List.{List, [], _∷_, map}
-use Prim.Native.Nat.{ℕ, zero, suc, _+_, _-_, _*_, _/_, _%_, _^_, _<_, _≤_}
+use Prim.Native.Nat.{ℕ, zero, suc, _+_, _-_, _*_, _/_, _%_, _^_, _<_}
 use native.Mathlib.Nat.{pow-suc, div-one, div-div-eq-div-mul, add-mul, mul-right-comm, mod-lt}
 use native.Mathlib.Omega.{arith}
 use lib.Dec.{lit<}
 use lib.Bits.{bitAnd, bitXor, and-block, xor-block, and-mask, and-high, and-le-r, and-zero-r, xor-zero-r, xor-mod, xor-shr}
-use lib.ListN.{length, getD, replicate}
+use lib.ListN.{length, replicate}
 use Rattle.laws.specs.Bytes.{Bytes, xorl}
 use Rattle.laws.proofs.ByteLists.{bytes-nil, bytes-cons, bytes-replicate}
 use Rattle.laws.proofs.Xor.{bit-ind}

@@ -1,4 +1,5 @@
 mod Cases
+mod ChannelCases
 pub mod Settled
 pub mod SessionLaws
 pub mod Shaken

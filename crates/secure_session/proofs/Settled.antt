@@ -5,8 +5,11 @@ use mathlib.Core.Path.{_≡_, refl, sym, ap, ap₂, _∙_}
 use Prim.Native.Nat.{ℕ}
 use Rattle.laws.specs.Answer.{Answer, Answer.given, Answer.refused}
 use Rattle.refusal.proofs.OneReading.{named, told-back}
+use Rattle.secure_keys.specs.declared.crypto.SessionKeys.{SessionKeys}
+use Rattle.secure_session.specs.Channel.{keysAnswer}
 use Rattle.secure_session.specs.Handshake.{Step, outcome, stepped, steppedBlock, blockAnswer}
 use Rattle.secure_session.specs.declared.session.BlockAnswer.{BlockAnswer}
+use Rattle.secure_session.specs.declared.session.KeysAnswer.{KeysAnswer}
 use Rattle.secure_session.specs.declared.session.Outcome.{Outcome}
 use Rattle.secure_session.specs.declared.session.Session.{Session}
 use Rattle.secure_session.specs.declared.session.Stepped.{Stepped}
@@ -39,3 +42,7 @@ block-settled r s e f =
 pub answer-settled : (r s : BlockAnswer) → blockAnswer r ≡ blockAnswer s → r .block ≡ s .block → r ≡ s
 answer-settled r s e f =
     ap₂ (λ (o : Outcome) (x : List ℕ). record { outcome = o; block = x }) (outcome-settled (r .outcome) (s .outcome) (r .block) (s .block) e) f
+
+pub keys-settled : (r s : KeysAnswer) → keysAnswer r ≡ keysAnswer s → r .keys ≡ s .keys → r ≡ s
+keys-settled r s e f =
+    ap₂ (λ (o : Outcome) (k : SessionKeys). record { outcome = o; keys = k }) (outcome-settled (r .outcome) (s .outcome) (r .keys) (s .keys) e) f

@@ -1,6 +1,8 @@
 // One session of the channel, at either end.
+mod channel;
 mod session;
 
+pub use channel::is_secure;
 pub use session::BlockAnswer;
 pub use session::End;
 pub use session::KeysAnswer;

@@ -2,7 +2,7 @@
 ghost use mathlib.Core.Path.{_≡_};
 ghost use Rattle.laws.specs.Bytes.{zeros};
 ghost use Rattle.secure_keys.specs.Keys.{firstOf};
-ghost use Rattle.secure_session.specs.Session.{endNumber, stateNumber, isAt, fresh, reset, wipedOf, moved, secured};
+ghost use Rattle.secure_session.specs.Session.{endNumber, stateNumber, isAt, noKeys, fresh, reset, wipedOf, moved, secured};
 ghost use Rattle.secure_session.specs.declared.session.End.the-variants.{Controller, Reader};
 ghost use Rattle.secure_session.specs.Handshake.{Step, challengeOf, receiveCcryptOf, serverCryptogramOf, initialRmacOf, confirmOf, receiveChallengeOf, receiveScryptOf, serverFor, firstFor, stepped, steppedBlock, blockAnswer, blockBeside};
 use refusal::Refusal;
@@ -69,7 +69,7 @@ fn end_number(e: End) -> u8
     }
 }
 
-fn state_number(t: State) -> u8
+pub(crate) fn state_number(t: State) -> u8
     ensures { λ r. ⌜ r ≡ stateNumber t ⌝ }
 {
     match t {
@@ -80,15 +80,21 @@ fn state_number(t: State) -> u8
     }
 }
 
+pub(crate) fn no_keys() -> SessionKeys
+    ensures { λ r. ⌜ r ≡ noKeys ⌝ }
+{
+    SessionKeys {
+        s_enc: [0; 16],
+        s_mac1: [0; 16],
+        s_mac2: [0; 16],
+    }
+}
+
 // Disconnected, with SCBK and cUID and nothing else.
 fn fresh(end: End, scbk: [u8; 16], cuid: [u8; 8]) -> Session
     ensures { λ r. ⌜ r ≡ fresh end scbk cuid ⌝ }
 {
-    let none = SessionKeys {
-        s_enc: [0; 16],
-        s_mac1: [0; 16],
-        s_mac2: [0; 16],
-    };
+    let none = no_keys();
     Session {
         end: end,
         state: State::Disconnected,

@@ -1,11 +1,11 @@
 -- `aes::block::decrypt_with` meets its contract: with r rounds to go, those take the two halves to what all nine take the first state to.
 -- Assumes nothing.
 use mathlib.Core.Path.{_≡_, refl, sym, ap, ap₂, _∙_}
-use mathlib.Core.List.{List, [], _∷_, _++_}
-use Prim.Native.Nat.{ℕ, _+_, _-_, _*_, _/_, _%_, _^_, _≤_}
+use mathlib.Core.List.{List, _++_}
+use Prim.Native.Nat.{ℕ, _≤_}
 use native.Mathlib.Omega.{arith}
 use borrow.Author.Needs.{needs}
-use Rattle.aes_field.specs.Packed.{unpacked, columns}
+use Rattle.aes_field.specs.Packed.{unpacked}
 use Rattle.aes.specs.State.{subBytes, invShiftRows, invMixColumns, addRoundKey}
 use Rattle.aes.specs.Cipher.{invRounds, invCipher}
 use Rattle.aes.proofs.Rounds.{invRounds-zero, invRounds-step}

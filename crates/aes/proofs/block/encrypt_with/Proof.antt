@@ -1,12 +1,12 @@
 -- `aes::block::encrypt_with` meets its contract: before turn r, the two halves are the state after the rounds 1 to r.
 -- Assumes nothing.
-use mathlib.Core.Path.{_≡_, refl, sym, ap, ap₂, _∙_}
-use mathlib.Core.List.{List, [], _∷_, _++_}
-use Prim.Native.Nat.{ℕ, _+_, _-_, _*_, _/_, _%_, _^_, _≤_}
+use mathlib.Core.Path.{_≡_, sym, ap, ap₂, _∙_}
+use mathlib.Core.List.{List, _++_}
+use Prim.Native.Nat.{ℕ, _+_, _-_, _≤_}
 use native.Mathlib.Numerals.{add-one}
 use native.Mathlib.Omega.{arith}
 use borrow.Author.Needs.{needs}
-use Rattle.aes_field.specs.Packed.{unpacked, columns}
+use Rattle.aes_field.specs.Packed.{unpacked}
 use Rattle.aes.specs.State.{subBytes, shiftRows, mixColumns, addRoundKey}
 use Rattle.aes.specs.Cipher.{rounds, cipher}
 use Rattle.aes.proofs.Rounds.{rounds-zero, rounds-suc}

@@ -1,10 +1,10 @@
 -- `aes::round::joined` meets its contract: byte by byte.
 -- Assumes nothing.
 use mathlib.Core.Path.{_≡_, ap, _∙_}
-use mathlib.Core.List.{List, [], _∷_, _++_}
-use Prim.Native.Nat.{ℕ, _+_, _-_, _*_, _/_, _%_, _^_, _≤_}
+use mathlib.Core.List.{[], _∷_}
+use Prim.Native.Nat.{ℕ, _/_, _%_, _^_}
 use borrow.Author.Needs.{needs}
-use Rattle.aes_field.specs.Packed.{unpacked, columns}
+use Rattle.aes_field.specs.Packed.{unpacked}
 use Rattle.aes_field.proofs.Packing.{after, after-is}
 use Rattle.aes.proofs.round.joined.Statement.{statement}
 use Rattle.aes.proofs.round.joined.Tie as tie

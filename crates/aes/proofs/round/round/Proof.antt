@@ -3,16 +3,16 @@
 use mathlib.Core.Path.{ap, ap₂, _∙_}
 use borrow.Author.Needs.{needs}
 use Rattle.laws.specs.Bytes.{xorl}
-use Rattle.aes_field.specs.Packed.{unpacked, columns}
+use Rattle.aes_field.specs.Packed.{columns}
 use Rattle.aes_field.proofs.Packing.{unpacked-xor}
-use Rattle.aes_field.proofs.Linear.{m, w}
+use Rattle.aes_field.proofs.Linear.{mixByte}
 use Rattle.aes.proofs.round.round.Statement.{statement}
 use Rattle.aes.proofs.round.round.Tie as tie
 
 returns : tie.Need-returns
 returns c =
     unpacked-xor 8 (c .before .mix .result) (c .key .result)
-    ∙ ap₂ xorl (c .before .mix .ensures ∙ ap (columns m) (c .before .before .substitute .ensures)) (c .key .ensures)
+    ∙ ap₂ xorl (c .before .mix .ensures ∙ ap (columns mixByte) (c .before .before .substitute .ensures)) (c .key .ensures)
 
 pub round-spec : {M : Type 1} → statement M
 round-spec =

@@ -1,11 +1,11 @@
 -- `aes::round::unsubstitute` meets its contract: a byte of the half comes from a byte of one of the two.
 -- Assumes nothing.
 use mathlib.Core.Path.{_≡_, ap, _∙_}
-use mathlib.Core.List.{List, [], _∷_, _++_}
-use Prim.Native.Nat.{ℕ, _+_, _-_, _*_, _/_, _%_, _^_, _≤_}
+use mathlib.Core.List.{[], _∷_}
+use Prim.Native.Nat.{ℕ, _/_, _%_, _^_}
 use lib.ListN.{getD}
 use borrow.Author.Needs.{needs}
-use Rattle.aes_field.specs.Packed.{unpacked, columns}
+use Rattle.aes_field.specs.Packed.{unpacked}
 use Rattle.aes_field.proofs.Packing.{after, after-is}
 use Rattle.aes.specs.Halves.{back}
 use Rattle.aes.proofs.round.unsubstitute.Statement.{statement}

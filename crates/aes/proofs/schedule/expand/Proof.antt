@@ -1,9 +1,8 @@
 -- `aes::schedule::expand` meets its contract: before turn r, w has the round keys 0 to r, k is the last of them, and c is 02 to
 -- the power r.
 -- Assumes nothing.
-use Prim.Native.Nat.{ℕ, _≤_, _-_, _+_, _*_}
+use Prim.Native.Nat.{ℕ, _≤_, _-_}
 use lib.ListN.{length, replicate}
-use lib.Seq.{paste}
 use mathlib.Core.Path.{_≡_, refl, ap, sym, subst, _∙_}
 use mathlib.Core.List.{List}
 use native.Mathlib.Nat.{le-antisymm}

@@ -1,13 +1,13 @@
 -- `secure_session::session::fresh` meets its contract: field by field.
 -- Assumes nothing.
-use mathlib.Core.Path.{refl}
+use borrow.Author.Needs.{needs}
 use Rattle.secure_session.specs.Session.{fresh}
 use Rattle.secure_session.proofs.session.fresh.Tie as tie
 use Rattle.secure_session.proofs.session.fresh.Statement.{statement}
 
 returns : tie.Need-returns
 unfolding fresh
-returns c = refl
+returns c = cc
 
 pub fresh-spec : {M : Type 1} → statement M
-fresh-spec = tie.close (tie.spec returns)
+fresh-spec = tie.close (tie.spec (λ c κs. search needs) returns)

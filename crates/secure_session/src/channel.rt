@@ -1,0 +1,197 @@
+// What a session that is Secure does to bytes, at either end.
+ghost use mathlib.Core.Path.{_≡_};
+ghost use Rattle.secure_cipher.specs.Cbc.{told};
+ghost use Rattle.secure_session.specs.Session.{isSecure, sendFrom, recvFrom, sent, received};
+ghost use Rattle.secure_session.specs.Handshake.{Step, stepped, steppedBlock, blockAnswer, blockBeside};
+ghost use Rattle.secure_session.specs.Channel.{macFrom, makeMac, verifyOf, keysOf, lastOtherMacOf, sealDataOf, openDataOf, keysAnswer, keysBeside};
+use super::session;
+use super::session::BlockAnswer;
+use super::session::KeysAnswer;
+use super::session::Outcome;
+use super::session::Session;
+use super::session::State;
+use super::session::Stepped;
+use super::session::SteppedBlock;
+use refusal::Refusal;
+use secure_cipher::Ciphered;
+use secure_cipher::LengthAnswer;
+
+pub fn is_secure(state: State) -> bool
+    ensures { λ r. ⌜ r ≡ isSecure state ⌝ }
+{
+    session::state_number(state) == 3
+}
+
+impl Session {
+    // Where a MAC that is made starts.
+    pub fn send_from(self) -> [u8; 16]
+        ensures { λ r. ⌜ r ≡ sendFrom self ⌝ }
+    {
+        self.chain
+    }
+
+    // Where a MAC that is checked starts.
+    pub fn recv_from(self) -> [u8; 16]
+        ensures { λ r. ⌜ r ≡ recvFrom self ⌝ }
+    {
+        self.chain
+    }
+
+    // After a MAC was made.
+    pub fn sent(self, full: [u8; 16]) -> Session
+        ensures { λ r. ⌜ r ≡ sent self full ⌝ }
+    {
+        let mut s = self;
+        s.chain = full;
+        s
+    }
+
+    // After a MAC was found right.
+    pub fn received(self, full: [u8; 16]) -> Session
+        ensures { λ r. ⌜ r ≡ received self full ⌝ }
+    {
+        let mut s = self;
+        s.chain = full;
+        s
+    }
+
+    // The full MAC from a chain value on, with the session's keys.
+    fn full_mac(self, start: [u8; 16], bytes: &[u8]) -> [u8; 16]
+        ensures { λ r. ⌜ r ≡ macFrom self start (now (bytes .entry)) .full ⌝ }
+    {
+        let k = self.keys;
+        let s_mac1 = k.s_mac1;
+        let s_mac2 = k.s_mac2;
+        let m = secure_cipher::cbc_mac(bytes, start, s_mac1, s_mac2);
+        m.full
+    }
+
+    // The MAC of bytes that are sent, in full.
+    pub fn mac(self, bytes: &[u8]) -> SteppedBlock
+        ensures { λ r. ⌜ steppedBlock r ≡ makeMac self (now (bytes .entry)) ⌝ }
+        ensures { λ r. ⌜ r .block ≡ blockBeside (makeMac self (now (bytes .entry)) .answer) ⌝ }
+    {
+        let state = self.state;
+        if is_secure(state) {
+            let start = self.send_from();
+            let full = self.full_mac(start, bytes);
+            let next = self.sent(full);
+            SteppedBlock {
+                outcome: Outcome::Done,
+                block: full,
+                session: next,
+            }
+        } else {
+            SteppedBlock {
+                outcome: Outcome::Refused(Refusal::WrongState),
+                block: [0; 16],
+                session: self,
+            }
+        }
+    }
+
+    // The four bytes of MAC that came with bytes.
+    pub fn verify(self, bytes: &[u8], wire_mac: [u8; 4]) -> Stepped
+        ensures { λ r. ⌜ stepped r ≡ verifyOf self (now (bytes .entry)) «wire_mac» ⌝ }
+    {
+        let state = self.state;
+        if is_secure(state) {
+            let start = self.recv_from();
+            let full = self.full_mac(start, bytes);
+            if secure_keys::same(&full[..4], &wire_mac) {
+                let next = self.received(full);
+                Stepped {
+                    outcome: Outcome::Done,
+                    session: next,
+                }
+            } else {
+                Stepped {
+                    outcome: Outcome::Refused(Refusal::BadCryptogram),
+                    session: self,
+                }
+            }
+        } else {
+            Stepped {
+                outcome: Outcome::Refused(Refusal::WrongState),
+                session: self,
+            }
+        }
+    }
+
+    // The derived keys.
+    pub fn keys(self) -> KeysAnswer
+        ensures { λ r. ⌜ keysAnswer r ≡ keysOf self ⌝ }
+        ensures { λ r. ⌜ r .keys ≡ keysBeside (keysOf self) ⌝ }
+    {
+        let state = self.state;
+        if is_secure(state) {
+            let keys = self.keys;
+            KeysAnswer {
+                outcome: Outcome::Done,
+                keys: keys,
+            }
+        } else {
+            let none = session::no_keys();
+            KeysAnswer {
+                outcome: Outcome::Refused(Refusal::WrongState),
+                keys: none,
+            }
+        }
+    }
+
+    // The chain value that a MAC made next starts from.
+    pub fn last_other_mac(self) -> BlockAnswer
+        ensures { λ r. ⌜ blockAnswer r ≡ lastOtherMacOf self ⌝ }
+        ensures { λ r. ⌜ r .block ≡ blockBeside (lastOtherMacOf self) ⌝ }
+    {
+        let state = self.state;
+        if is_secure(state) {
+            let start = self.send_from();
+            BlockAnswer {
+                outcome: Outcome::Done,
+                block: start,
+            }
+        } else {
+            BlockAnswer {
+                outcome: Outcome::Refused(Refusal::WrongState),
+                block: [0; 16],
+            }
+        }
+    }
+
+    // Enciphers a payload into out, from the complement of the chain value.
+    pub fn seal_data(self, data: &[u8], out: &mut [u8]) -> Ciphered
+        ensures { λ r. ⌜ told r (now (out .exit)) ≡ sealDataOf self (now («data» .entry)) (now (out .entry)) ⌝ }
+    {
+        let state = self.state;
+        if is_secure(state) {
+            let k = self.keys;
+            let s_enc = k.s_enc;
+            let iv = secure_cipher::complement_icv(self.send_from());
+            secure_cipher::encrypt_data(s_enc, iv, data, out)
+        } else {
+            Ciphered {
+                answer: LengthAnswer::Refused(Refusal::WrongState),
+                calls: 0,
+            }
+        }
+    }
+
+    // Deciphers encrypted data into out, from the complement of the chain value.
+    pub fn open_data(self, ct: &[u8], out: &mut [u8]) -> Ciphered
+        ensures { λ r. ⌜ told r (now (out .exit)) ≡ openDataOf self (now (ct .entry)) (now (out .entry)) ⌝ }
+    {
+        let state = self.state;
+        if is_secure(state) {
+            let k = self.keys;
+            let s_enc = k.s_enc;
+            let iv = secure_cipher::complement_icv(self.recv_from());
+            secure_cipher::decrypt_data(s_enc, iv, ct, out)
+        } else {
+            Ciphered {
+                answer: LengthAnswer::Refused(Refusal::WrongState),
+                calls: 0,
+            }
+        }
+    }
+}
