@@ -1,6 +1,7 @@
 pub mod SealLaws
 pub mod SealCases
 pub mod Settled
+pub mod Worked
 mod Places
 mod Arrays
 mod DataWritten

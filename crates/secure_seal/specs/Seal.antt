@@ -19,9 +19,9 @@ use Rattle.secure_cipher.specs.Cbc.{Hidden, hide, hiddenLen}
 use Rattle.secure_session.specs.Session.{isSecure, sendFrom, sent}
 use Rattle.secure_session.specs.declared.session.State.{State}
 use Rattle.secure_session.specs.declared.session.Session.{Session}
-use Rattle.secure_seal.specs.declared.seal.Direction.{Direction}
-use Rattle.secure_seal.specs.declared.seal.Direction.the-variants.{AcuToPd, PdToAcu}
-use Rattle.secure_seal.specs.declared.seal.Sealed.{Sealed}
+use Rattle.secure_seal.specs.declared.frame.Direction.{Direction}
+use Rattle.secure_seal.specs.declared.frame.Direction.the-variants.{AcuToPd, PdToAcu}
+use Rattle.secure_seal.specs.declared.frame.Sealed.{Sealed}
 
 -- 15 or 17 from the controller, 16 or 18 from the reader
 unfoldable pub typeFor : Direction → Bool → ℕ

@@ -1,4 +1,4 @@
--- `secure_seal::seal::put_head` meets its contract: the eight bytes are the body without data.
+-- `secure_seal::frame::put_head` meets its contract: the eight bytes are the body without data.
 -- Assumes nothing.
 use mathlib.Core.Path.{_∙_}
 use mathlib.Core.Bool.{true}
@@ -12,8 +12,8 @@ use mathlib.Core.Path.{sym}
 use native.Mathlib.Omega.{arith}
 use lib.Seq.{length-take-le}
 use borrow.Author.Needs.{needs}
-use Rattle.secure_seal.proofs.seal.put_head.Statement.{statement}
-use Rattle.secure_seal.proofs.seal.put_head.Tie as tie
+use Rattle.secure_seal.proofs.frame.put_head.Statement.{statement}
+use Rattle.secure_seal.proofs.frame.put_head.Tie as tie
 
 slice-aggregate-copy-2 : tie.Need-slice-aggregate-copy-2
 slice-aggregate-copy-2 c = sym (length-take-le 8 (c .before .before .before .before .before .before .args .out .now) (omega arith))

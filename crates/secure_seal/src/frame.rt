@@ -7,11 +7,12 @@ ghost use lib.ListN.{length, take};
 ghost use Rattle.laws.specs.Over.{write};
 ghost use Rattle.packet_build.specs.Build.{Block.scb, bodyBytes, tailBytes};
 ghost use Rattle.packet_head.specs.Block.{typeOf};
-ghost use Rattle.secure_seal.specs.Seal.{typeFor, dataLen, dataOf, totalOf, askedOf, sealedFrame};
-ghost use Rattle.secure_seal.specs.Core.{Put};
+ghost use Rattle.secure_seal.specs.Seal.{typeFor, dataLen, dataOf, totalOf, askedOf, sealedFrame, sealOf, sealTold};
+ghost use Rattle.secure_seal.specs.Core.{Put, refusedWith};
 use packet_head::Address;
 use packet_head::ScsType;
 use packet_head::Sqn;
+use refusal::Refusal;
 use secure_cipher::ChainMac;
 use secure_cipher::LengthAnswer;
 use secure_keys::SessionKeys;
@@ -148,5 +149,74 @@ fn put_frame(
     ChainMac {
         full,
         calls: hidden + mac.calls,
+    }
+}
+
+// A refusal leaves the session as it was and calls no cipher.
+fn refused(session: Session, e: Refusal) -> Sealed
+    ensures { λ r. ⌜ r ≡ refusedWith session e ⌝ }
+{
+    Sealed {
+        answer: LengthAnswer::Refused(e),
+        calls: 0,
+        session: session,
+    }
+}
+
+// Seals data into out, and hands the session back with its chain moved by the frame's MAC.
+pub fn seal(
+    session: Session,
+    addr: Address,
+    sqn: Sqn,
+    direction: Direction,
+    encrypt: bool,
+    code: u8,
+    data: &[u8],
+    out: &mut [u8],
+) -> Sealed
+    ensures { λ r. ⌜ sealTold r (now (out .exit)) ≡ sealOf session (askedOf addr sqn direction encrypt code (now («data» .entry))) (now (out .entry)) ⌝ }
+{
+    let state = session.state;
+    if !secure_session::is_secure(state) {
+        return refused(session, Refusal::WrongState);
+    }
+    let n = sqn.value();
+    if 3 < n {
+        return refused(session, Refusal::BadSqn(n));
+    }
+    let total = 14 + data_len(encrypt, data);
+    if 65535 < total {
+        let most = Refusal::BufferOverflow {
+            need: total,
+            have: 65535,
+        };
+        return refused(session, most);
+    }
+    if out.len() < total {
+        let short = Refusal::NoRoom {
+            need: total,
+            have: out.len(),
+        };
+        return refused(session, short);
+    }
+    let keys = session.keys;
+    let start = session.send_from();
+    let mac = put_frame(
+        keys,
+        start,
+        addr,
+        sqn,
+        direction,
+        encrypt,
+        code,
+        data,
+        total,
+        out,
+    );
+    let full = mac.full;
+    Sealed {
+        answer: LengthAnswer::Of(total),
+        calls: mac.calls,
+        session: session.sent(full),
     }
 }

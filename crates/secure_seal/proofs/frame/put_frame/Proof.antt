@@ -1,4 +1,4 @@
--- `secure_seal::seal::put_frame` meets its contract: its parts are written one after the other (proofs/FrameWritten).
+-- `secure_seal::frame::put_frame` meets its contract: its parts are written one after the other (proofs/FrameWritten).
 -- Assumes nothing.
 use mathlib.Core.Path.{_≡_, sym, ap, _∙_}
 use Prim.Native.Nat.{_+_, _-_, _≤_}
@@ -12,8 +12,8 @@ use Rattle.secure_seal.proofs.Places.{part-length}
 use Rattle.secure_seal.proofs.SealLaws.{length-dataLen}
 use Rattle.secure_cipher.specs.Mac.{Mac}
 use borrow.Author.Needs.{needs}
-use Rattle.secure_seal.proofs.seal.put_frame.Statement.{statement}
-use Rattle.secure_seal.proofs.seal.put_frame.Tie as tie
+use Rattle.secure_seal.proofs.frame.put_frame.Statement.{statement}
+use Rattle.secure_seal.proofs.frame.put_frame.Tie as tie
 
 slice-aggregate-cbc-mac : tie.Need-slice-aggregate-cbc-mac
 slice-aggregate-cbc-mac c =
@@ -33,6 +33,7 @@ add-t23 c =
 returns : tie.Need-returns
 returns c =
     let m = c .before .before .before .before .before .before in
+    let lf : length (m .cbc-mac .result .full) ≡ 16 = search needs in
     let p = m .before .before .before .before .before .before in
     let h = p .before .before .before .before .before in
     let s = h .before .before .before .before .before in
@@ -43,7 +44,6 @@ returns c =
     let l₁ : length o₁ ≡ length (a .out .now) = p .before .before .before .before .out .given in
     let g : length y ≡ length (take (a .total - 6 - 8) (drop 8 o₁)) = m .before .before .before .before .before .out2 .given .0 in
     let ly : length y ≡ dataLen (a .encrypt) (a .«data» .now) = g ∙ part-length o₁ 8 (a .total - 6 - 8) (omega (arith, s .pre)) ∙ omega (arith, s .pre .1) in
-    let lf : length (m .cbc-mac .result .full) ≡ 16 = search needs in
     frame-put (a .keys) (a .start) q (a .out .now) o₁ y _ (a .total) (s .pre .1) (s .pre .3) (p .put-data .ensures .0) ly (h .put-head .ensures) (h .before .before .scs-for .ensures)
     (m .cbc-mac .result .full) _ (m .cbc-mac .result .calls) (p .put-data .result) lf (p .put-data .ensures .1) (m .cbc-mac .ensures) (c .before .before .before .put-end .ensures)
 

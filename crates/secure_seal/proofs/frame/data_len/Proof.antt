@@ -1,11 +1,11 @@
--- `secure_seal::seal::data_len` meets its contract: the payload's length, or that of the padded payload.
+-- `secure_seal::frame::data_len` meets its contract: the payload's length, or that of the padded payload.
 -- Assumes nothing.
 use native.Mathlib.Omega.{arith}
 use borrow.Author.Needs.{needs}
 use Rattle.secure_cipher.proofs.PadLaws.{length-padData}
 use Rattle.secure_seal.specs.Seal.{dataLen}
-use Rattle.secure_seal.proofs.seal.data_len.Statement.{statement}
-use Rattle.secure_seal.proofs.seal.data_len.Tie as tie
+use Rattle.secure_seal.proofs.frame.data_len.Statement.{statement}
+use Rattle.secure_seal.proofs.frame.data_len.Tie as tie
 
 returns : tie.Need-returns
 unfolding dataLen

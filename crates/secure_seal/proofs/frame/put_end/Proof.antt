@@ -1,4 +1,4 @@
--- `secure_seal::seal::put_end` meets its contract: both parts come back as they were written.
+-- `secure_seal::frame::put_end` meets its contract: both parts come back as they were written.
 -- Assumes nothing.
 use Rattle.laws.specs.Blocks.{Block}
 use Rattle.secure_seal.proofs.Arrays.{array-block}
@@ -8,8 +8,8 @@ use Prim.Native.Nat.{_+_, _-_}
 use borrow.Rule.Slice.PartMut.{putMid}
 use lib.Seq.{length-take-le}
 use borrow.Author.Needs.{needs}
-use Rattle.secure_seal.proofs.seal.put_end.Statement.{statement}
-use Rattle.secure_seal.proofs.seal.put_end.Tie as tie
+use Rattle.secure_seal.proofs.frame.put_end.Statement.{statement}
+use Rattle.secure_seal.proofs.frame.put_end.Tie as tie
 
 slice-aggregate-crc16-le : tie.Need-slice-aggregate-crc16-le
 slice-aggregate-crc16-le c =

@@ -1,10 +1,10 @@
--- `secure_seal::seal::put_data` meets its contract: the cipher is called on a part that has the room, or the payload is copied.
+-- `secure_seal::frame::put_data` meets its contract: the cipher is called on a part that has the room, or the payload is copied.
 -- Assumes nothing.
 use Rattle.secure_seal.proofs.DataWritten.{hidden-written, plain-fits, plain-written}
 use Rattle.secure_seal.proofs.Arrays.{array-block}
 use borrow.Author.Needs.{needs}
-use Rattle.secure_seal.proofs.seal.put_data.Statement.{statement}
-use Rattle.secure_seal.proofs.seal.put_data.Tie as tie
+use Rattle.secure_seal.proofs.frame.put_data.Statement.{statement}
+use Rattle.secure_seal.proofs.frame.put_data.Tie as tie
 
 copy-requires : tie.Need-copy-requires
 copy-requires c κs =

@@ -1,4 +1,4 @@
--- `secure_seal::seal::copy` meets its contract: before turn i, the first i bytes of src are written.
+-- `secure_seal::frame::copy` meets its contract: before turn i, the first i bytes of src are written.
 -- Assumes nothing.
 use Prim.Native.Nat.{_≤_, _-_, _+_}
 use mathlib.Core.Path.{_≡_, refl, _∙_}
@@ -6,8 +6,8 @@ use native.Mathlib.Omega.{arith}
 use lib.ListN.{length}
 use Rattle.secure_cipher.proofs.Pasted.{Pasted, pasted-none, pasted-more, pasted-all}
 use Rattle.secure_seal.proofs.Places.{write-whole}
-use Rattle.secure_seal.proofs.seal.copy.Statement.{statement}
-use Rattle.secure_seal.proofs.seal.copy.Tie as tie
+use Rattle.secure_seal.proofs.frame.copy.Statement.{statement}
+use Rattle.secure_seal.proofs.frame.copy.Tie as tie
 
 abbrev Inv-loop : tie.InvT-loop
 Inv-loop src out₀ i₀ i-end out i = (i ≤ length src) × ((i-end ≡ length src) × Pasted out₀ 0 src i out)
