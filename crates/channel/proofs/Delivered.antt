@@ -25,7 +25,7 @@ use Rattle.secure_cipher.proofs.CbcLaws.{reveal-hide}
 use Rattle.secure_session.specs.Session.{isSecure}
 use Rattle.secure_session.specs.declared.session.State.{State}
 use Rattle.secure_session.specs.declared.session.State.the-variants.{Secure}
-use Rattle.secure_seal.specs.declared.seal.Direction.{Direction}
+use Rattle.secure_seal.specs.declared.frame.Direction.{Direction}
 use Rattle.secure_seal.specs.Seal.{Asked, dataLen, dataOf, totalOf, bodyWith, SealedFrame, sealedFrame, sealRun}
 use Rattle.secure_seal.proofs.SealLaws.{Sealable, stepsFor, type-mac, type-encrypted, length-dataLen, fieldsWith, dataIn, macIn, length-body, frame-length, data-alone, body-alone, mac-alone, reads-alone}
 use Rattle.secure_unseal.specs.Unseal.{check, openData, Place, UnsealRun, unsealPlain, unsealOpened, unsealHidden, unsealParsed, unsealRun}

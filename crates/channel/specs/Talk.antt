@@ -7,8 +7,8 @@ use Rattle.laws.specs.Answer.{Answer, Answer.given, Answer.refused}
 use Rattle.secure_session.specs.declared.session.End.{End}
 use Rattle.secure_session.specs.declared.session.End.the-variants.{Controller, Reader}
 use Rattle.secure_session.specs.declared.session.Session.{Session}
-use Rattle.secure_seal.specs.declared.seal.Direction.{Direction}
-use Rattle.secure_seal.specs.declared.seal.Direction.the-variants.{AcuToPd, PdToAcu}
+use Rattle.secure_seal.specs.declared.frame.Direction.{Direction}
+use Rattle.secure_seal.specs.declared.frame.Direction.the-variants.{AcuToPd, PdToAcu}
 use Rattle.secure_seal.specs.Seal.{Asked, sealOf}
 use Rattle.secure_unseal.specs.Unseal.{Place, unsealOf}
 use Rattle.secure_unseal.specs.Lookup.{shown}
