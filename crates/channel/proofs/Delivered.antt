@@ -25,9 +25,10 @@ use Rattle.secure_cipher.proofs.CbcLaws.{reveal-hide}
 use Rattle.secure_session.specs.Session.{isSecure}
 use Rattle.secure_session.specs.declared.session.State.{State}
 use Rattle.secure_session.specs.declared.session.State.the-variants.{Secure}
-use Rattle.secure_seal.specs.declared.frame.Direction.{Direction}
-use Rattle.secure_seal.specs.Seal.{Asked, dataLen, dataOf, totalOf, bodyWith, SealedFrame, sealedFrame, sealRun}
-use Rattle.secure_seal.proofs.SealLaws.{Sealable, stepsFor, type-mac, type-encrypted, length-dataLen, fieldsWith, dataIn, macIn, length-body, frame-length, data-alone, body-alone, mac-alone, reads-alone}
+use Rattle.secure_seal.specs.declared.seal.Direction.{Direction}
+use Rattle.secure_seal.specs.Seal.{Asked, dataLen, dataOf, totalOf, bodyWith, sealedFrame, sealRun}
+use Rattle.secure_seal.proofs.SealLaws.{Sealable, stepsFor, type-mac, type-encrypted, length-dataLen, fieldsWith, dataIn, macIn, length-body, frame-length}
+use Rattle.secure_seal.proofs.SealLaws.{data-alone, body-alone, mac-alone, reads-alone}
 use Rattle.secure_unseal.specs.Unseal.{check, openData, Place, UnsealRun, unsealPlain, unsealOpened, unsealHidden, unsealParsed, unsealRun}
 use Rattle.secure_unseal.specs.Lookup.{shown}
 
@@ -68,12 +69,12 @@ module _ (k : SessionKeys) (v : List ℕ) (addr sqn : ℕ) (dir : Direction) (co
       → check k v (frame e) (8 + dataLen e x) ≡ record { right = true; full = sealedFrame k v (asked e) .full; steps = (8 + dataLen e x + 15) / 16 }
   unfolding check
   check-eq e h =
-      let full : SealedFrame = sealedFrame k v (asked e) in
       let n = mac-steps (k .«s_mac1») (k .«s_mac2») v (bodyWith (asked e) (dataIn k v (asked e))) ∙ ap (λ (n : ℕ). (n + 15) / 16) (length-body k v (asked e) hk hv h) in
       rw (body-alone k v (asked e) hk hv h, mac-alone k v (asked e) hk hv h, n)
       (unfold sealedFrame in (rw (eql-refl (macIn k v (asked e)))))
 
-  open-eq : Sealable (asked true) → (t : Tail) → openData k v (frame true) (fieldsWith (asked true) t) ≡ record { answer = given (length x); text = padData x; steps = length x / 16 + 1 }
+  open-eq : Sealable (asked true) → (t : Tail)
+      → openData k v (frame true) (fieldsWith (asked true) t) ≡ record { answer = given (length x); text = padData x; steps = length x / 16 + 1 }
   unfolding openData dataOf
   open-eq h t =
       ap (reveal (k .«s_enc») (compl v)) (data-alone k v (asked true) hk hv h)

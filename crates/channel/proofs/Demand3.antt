@@ -46,8 +46,11 @@ module _ (s t : Send) (h : Agree s t) where
   total-same : totalOf (askedOf s) ≡ totalOf (askedOf t)
   total-same = ap (λ (n : ℕ). 14 + n) (data-same (s .encrypt) (s .payload) (t .payload) (h .size) ∙ ap (λ (e : Bool). dataLen e (t .payload)) (h .encrypt))
 
+  type-same : typeFor (directionOf (s .who)) (s .encrypt) ≡ typeFor (directionOf (t .who)) (t .encrypt)
+  type-same = ap₂ (λ (w : End) (e : Bool). typeFor (directionOf w) e) (h .who) (h .encrypt)
+
   head-same : headWith (askedOf s) ≡ headWith (askedOf t)
-  head-same = λ i. 0x53 ∷ h .addr i ∷ total-same i % 256 ∷ total-same i / 256 ∷ (h .sqn i + 4 + 8) ∷ 2 ∷ typeFor (directionOf (h .who i)) (h .encrypt i) ∷ h .code i ∷ []
+  head-same = λ i. 0x53 ∷ h .addr i ∷ total-same i % 256 ∷ total-same i / 256 ∷ (h .sqn i + 4 + 8) ∷ 2 ∷ type-same i ∷ h .code i ∷ []
 
   open-by : (e : Bool) → s .encrypt ≡ e → openFor e (askedOf s) ≡ openFor e (askedOf t)
   unfolding openFor

@@ -85,7 +85,11 @@ module _ (a b : Session) (s : Send) (r : Ready a b) (g : Fits s) where
   opened-eq =
       let e : unsealRun (b .state) (b .keys) (recvFrom b) (made .bytes) (s .work) ≡ unsealRun (b .state) (a .keys) (sendFrom a) (made .bytes) (s .work) =
       ap₂ (λ (k : SessionKeys) (v : List ℕ). unsealRun (b .state) k v (made .bytes) (s .work)) (sym (r .keys)) (sym (r .start)) in
-      rw (e, unseal-run-eq (a .keys) (sendFrom a) (s .addr) (s .sqn) (directionOf (s .who)) (s .code) (s .payload) (s .work) (r .good) (r .block) (s .encrypt) (b .state) (r .taker) fine (g .work))
+      rw (
+        e,
+        unseal-run-eq (a .keys) (sendFrom a) (s .addr) (s .sqn) (directionOf (s .who)) (s .code) (s .payload) (s .work)
+            (r .good) (r .block) (s .encrypt) (b .state) (r .taker) fine (g .work),
+      )
 
   transfer-eq : transfer a b s
       ≡ record {
@@ -105,7 +109,8 @@ module _ (a b : Session) (s : Send) (r : Ready a b) (g : Fits s) where
         sealed-eq,
         line-eq,
         opened-eq,
-        shown-eq (a .keys) (sendFrom a) (s .addr) (s .sqn) (directionOf (s .who)) (s .code) (s .payload) (s .work) (r .good) (r .block) (s .encrypt) fine (g .work),
+        shown-eq (a .keys) (sendFrom a) (s .addr) (s .sqn) (directionOf (s .who)) (s .code) (s .payload) (s .work)
+            (r .good) (r .block) (s .encrypt) fine (g .work),
       )
 
   pub transfer-heard : Heard s (transfer a b s .event)
