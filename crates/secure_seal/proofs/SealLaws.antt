@@ -28,8 +28,8 @@ use Rattle.secure_cipher.proofs.PadLaws.{length-padData}
 use Rattle.secure_cipher.proofs.CbcLaws.{length-hide, bytes-hide, steps-hide}
 use Rattle.secure_cipher.proofs.MacLaws.{mac-block, mac-steps}
 use Rattle.secure_seal.specs.Seal.{typeFor, dataLen, dataOf, Asked, totalOf, partsWith, bodyWith, sealedFrame}
-use Rattle.secure_seal.specs.declared.seal.Direction.{Direction}
-use Rattle.secure_seal.specs.declared.seal.Direction.the-variants.{AcuToPd, PdToAcu}
+use Rattle.secure_seal.specs.declared.frame.Direction.{Direction}
+use Rattle.secure_seal.specs.declared.frame.Direction.the-variants.{AcuToPd, PdToAcu}
 
 -- what passes the tests, with bytes throughout
 pub record Sealable (q : Asked) : Type 0 where

@@ -5,7 +5,7 @@ use mathlib.Core.List.{List}
 use Prim.Native.Nat.{ℕ}
 use Rattle.secure_cipher.proofs.Settled.{length-settled}
 use Rattle.secure_seal.specs.Seal.{SealDone, sealTold}
-use Rattle.secure_seal.specs.declared.seal.Sealed.{Sealed}
+use Rattle.secure_seal.specs.declared.frame.Sealed.{Sealed}
 
 -- answer, number of calls, session, buffer
 pub seal-settled : (r s : Sealed) (o p : List ℕ) → sealTold r o ≡ sealTold s p → (r ≡ s) × (o ≡ p)
