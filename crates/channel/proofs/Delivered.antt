@@ -25,7 +25,7 @@ use Rattle.secure_cipher.proofs.CbcLaws.{reveal-hide}
 use Rattle.secure_session.specs.Session.{isSecure}
 use Rattle.secure_session.specs.declared.session.State.{State}
 use Rattle.secure_session.specs.declared.session.State.the-variants.{Secure}
-use Rattle.secure_seal.specs.declared.seal.Direction.{Direction}
+use Rattle.secure_seal.specs.declared.frame.Direction.{Direction}
 use Rattle.secure_seal.specs.Seal.{Asked, dataLen, dataOf, totalOf, bodyWith, sealedFrame, sealRun}
 use Rattle.secure_seal.proofs.SealLaws.{Sealable, stepsFor, type-mac, type-encrypted, length-dataLen, fieldsWith, dataIn, macIn, length-body, frame-length}
 use Rattle.secure_seal.proofs.SealLaws.{data-alone, body-alone, mac-alone, reads-alone}

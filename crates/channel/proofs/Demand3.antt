@@ -10,7 +10,7 @@ use Rattle.secure_session.specs.declared.session.End.{End}
 use Rattle.secure_session.specs.declared.session.End.the-variants.{Controller, Reader}
 use Rattle.secure_seal.specs.Seal.{typeFor, dataLen, totalOf}
 use Rattle.secure_seal.proofs.SealLaws.{stepsFor, headWith}
-use Rattle.channel.specs.Talk.{Send, directionOf, askedOf, Event}
+use Rattle.channel.specs.Talk.{Send, directionOf, askedIn, Event}
 use Rattle.channel.specs.Demand.{Conversation, handOf, eventsOf, Proper, Agree, Each, Arrived, Alike, AllAlike, Demand3}
 use Rattle.channel.proofs.Shaken.{shaken, shaken-back, succeeded}
 use Rattle.channel.proofs.TalkLaws.{openFor, Heard, ReadyFrom, any-able, talk-heard}
@@ -43,22 +43,22 @@ data-same false x y h = h
 data-same true x y h = length-padData x ∙ ap (λ (n : ℕ). (n / 16 + 1) * 16) h ∙ sym (length-padData y)
 
 module _ (s t : Send) (h : Agree s t) where
-  total-same : totalOf (askedOf s) ≡ totalOf (askedOf t)
+  total-same : totalOf (askedIn s) ≡ totalOf (askedIn t)
   total-same = ap (λ (n : ℕ). 14 + n) (data-same (s .encrypt) (s .payload) (t .payload) (h .size) ∙ ap (λ (e : Bool). dataLen e (t .payload)) (h .encrypt))
 
   type-same : typeFor (directionOf (s .who)) (s .encrypt) ≡ typeFor (directionOf (t .who)) (t .encrypt)
   type-same = ap₂ (λ (w : End) (e : Bool). typeFor (directionOf w) e) (h .who) (h .encrypt)
 
-  head-same : headWith (askedOf s) ≡ headWith (askedOf t)
+  head-same : headWith (askedIn s) ≡ headWith (askedIn t)
   head-same = λ i. 0x53 ∷ h .addr i ∷ total-same i % 256 ∷ total-same i / 256 ∷ (h .sqn i + 4 + 8) ∷ 2 ∷ type-same i ∷ h .code i ∷ []
 
-  open-by : (e : Bool) → s .encrypt ≡ e → openFor e (askedOf s) ≡ openFor e (askedOf t)
+  open-by : (e : Bool) → s .encrypt ≡ e → openFor e (askedIn s) ≡ openFor e (askedIn t)
   unfolding openFor
   open-by true p = head-same
   open-by false p = ap₂ (λ (x y : List ℕ). x ++ y) head-same (h .plain p)
 
-  open-same : openFor (s .encrypt) (askedOf s) ≡ openFor (t .encrypt) (askedOf t)
-  open-same = open-by (s .encrypt) refl ∙ ap (λ (e : Bool). openFor e (askedOf t)) (h .encrypt)
+  open-same : openFor (s .encrypt) (askedIn s) ≡ openFor (t .encrypt) (askedIn t)
+  open-same = open-by (s .encrypt) refl ∙ ap (λ (e : Bool). openFor e (askedIn t)) (h .encrypt)
 
   calls-same : stepsFor (s .encrypt) (length (s .payload)) ≡ stepsFor (t .encrypt) (length (t .payload))
   calls-same = ap₂ stepsFor (h .encrypt) (h .size)

@@ -21,7 +21,7 @@ use Rattle.secure_seal.specs.Seal.{Asked, dataLen, totalOf, SealedFrame, sealed
 use Rattle.secure_seal.proofs.SealLaws.{Sealable, stepsFor, headWith, full-block, frame-length, frame-steps, head-alone, plain-alone}
 use Rattle.secure_unseal.specs.Unseal.{unsealRun, afterUnseal, unsealOf}
 use Rattle.channel.specs.Carried.{onLine}
-use Rattle.channel.specs.Talk.{Send, directionOf, askedOf, Event, showing, transfer, turn, talk}
+use Rattle.channel.specs.Talk.{Send, directionOf, askedIn, Event, showing, transfer, turn, talk}
 use Rattle.channel.specs.Demand.{Within, Fits, AllFit, encryptedLen, openBytes, Each}
 use Rattle.channel.proofs.Delivered.{seal-run-eq, placeFor, workFor, unseal-run-eq, shown-eq}
 use Rattle.channel.proofs.Ends.{ready-same, ready-other}
@@ -47,31 +47,31 @@ module _ (k : SessionKeys) (v : List ℕ) (q : Asked) (hk : GoodKeys k) (hv : Bl
 
 -- ---- what an event is, said without keys, random numbers and encrypted contents
 pub record Heard (s : Send) (e : Event) : Type 0 where
-  pub sealed : e .sealed ≡ given (totalOf (askedOf s))
-  pub size : length (e .frame) ≡ totalOf (askedOf s)
-  pub bytes : openBytes s (e .frame) ≡ openFor (s .encrypt) (askedOf s)
+  pub sealed : e .sealed ≡ given (totalOf (askedIn s))
+  pub size : length (e .frame) ≡ totalOf (askedIn s)
+  pub bytes : openBytes s (e .frame) ≡ openFor (s .encrypt) (askedIn s)
   pub opened : e .opened ≡ given (s .payload)
   pub sealCalls : e .sealCalls ≡ stepsFor (s .encrypt) (length (s .payload))
   pub openCalls : e .openCalls ≡ stepsFor (s .encrypt) (length (s .payload))
 
 module _ (a b : Session) (s : Send) (r : Ready a b) (g : Fits s) where
   abbrev made : SealedFrame
-  made = sealedFrame (a .keys) (sendFrom a) (askedOf s)
+  made = sealedFrame (a .keys) (sendFrom a) (askedIn s)
 
-  abbrev fine : Sealable (askedOf s)
-  fine = sealable (askedOf s) (g .limits)
+  abbrev fine : Sealable (askedIn s)
+  fine = sealable (askedIn s) (g .limits)
 
-  made-length : length (made .bytes) ≡ totalOf (askedOf s)
-  made-length = frame-length (a .keys) (sendFrom a) (askedOf s) (r .good) (r .block) fine
+  made-length : length (made .bytes) ≡ totalOf (askedIn s)
+  made-length = frame-length (a .keys) (sendFrom a) (askedIn s) (r .good) (r .block) fine
 
-  line-eq : take (totalOf (askedOf s)) (write (s .out) 0 (made .bytes)) ≡ made .bytes
-  line-eq = take-write (s .out) (totalOf (askedOf s)) (made .bytes) (sym made-length)
+  line-eq : take (totalOf (askedIn s)) (write (s .out) 0 (made .bytes)) ≡ made .bytes
+  line-eq = take-write (s .out) (totalOf (askedIn s)) (made .bytes) (sym made-length)
 
   -- the sender's call
-  sealed-eq : sealOf a (askedOf s) (s .out)
-      ≡ record { answer = given (totalOf (askedOf s)); session = sent a (made .full); out = write (s .out) 0 (made .bytes); steps = made .steps }
+  sealed-eq : sealOf a (askedIn s) (s .out)
+      ≡ record { answer = given (totalOf (askedIn s)); session = sent a (made .full); out = write (s .out) 0 (made .bytes); steps = made .steps }
   unfolding sealOf afterSeal
-  sealed-eq = rw (seal-run-eq (a .state) (a .keys) (sendFrom a) (askedOf s) (s .out) (r .sender) fine (g .room))
+  sealed-eq = rw (seal-run-eq (a .state) (a .keys) (sendFrom a) (askedIn s) (s .out) (r .sender) fine (g .room))
 
   -- the peer's
   opened-eq : unsealOf b (made .bytes) (s .work)
@@ -96,7 +96,7 @@ module _ (a b : Session) (s : Send) (r : Ready a b) (g : Fits s) where
         from = sent a (made .full);
         to = received b (made .full);
         event = record {
-          sealed = given (totalOf (askedOf s));
+          sealed = given (totalOf (askedIn s));
           frame = made .bytes;
           sealCalls = made .steps;
           opened = given (s .payload);
@@ -117,14 +117,14 @@ module _ (a b : Session) (s : Send) (r : Ready a b) (g : Fits s) where
   transfer-heard = rw transfer-eq (record {
     sealed = refl;
     size = made-length;
-    bytes = rw made-length (open-part (a .keys) (sendFrom a) (askedOf s) (r .good) (r .block) fine (s .encrypt) refl);
+    bytes = rw made-length (open-part (a .keys) (sendFrom a) (askedIn s) (r .good) (r .block) fine (s .encrypt) refl);
     opened = refl;
-    sealCalls = frame-steps (a .keys) (sendFrom a) (askedOf s) (r .good) (r .block) fine;
+    sealCalls = frame-steps (a .keys) (sendFrom a) (askedIn s) (r .good) (r .block) fine;
     openCalls = refl;
   })
 
   full-ok : Block (made .full)
-  full-ok = full-block (a .keys) (sendFrom a) (askedOf s) (r .good) (r .block) fine
+  full-ok = full-block (a .keys) (sendFrom a) (askedIn s) (r .good) (r .block) fine
 
   -- the ends after it, both ways
   pub transfer-same : Ready (transfer a b s .from) (transfer a b s .to)

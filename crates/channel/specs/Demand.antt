@@ -11,7 +11,7 @@ use Rattle.secure_session.specs.Hand.{Hand}
 use Rattle.secure_session.specs.declared.session.Session.{Session}
 use Rattle.secure_seal.specs.Seal.{Asked, dataLen, totalOf}
 use Rattle.channel.specs.Handshake.{Wires, WiresFit, Apart, Random, shakeIn, Succeeded}
-use Rattle.channel.specs.Talk.{Send, askedOf, Event, talk}
+use Rattle.channel.specs.Talk.{Send, askedIn, Event, talk}
 
 -- ---- a conversation: the handshake, then any list of sealed frames
 pub record Conversation : Type 0 where
@@ -40,8 +40,8 @@ pub record Within (q : Asked) : Type 0 where
 
 -- a sealed frame within limits and buffers; only encrypted data need the work buffer
 pub record Fits (s : Send) : Type 0 where
-  pub limits : Within (askedOf s)
-  pub room : totalOf (askedOf s) ≤ length (s .out)
+  pub limits : Within (askedIn s)
+  pub room : totalOf (askedIn s) ≤ length (s .out)
   pub work : s .encrypt ≡ true → dataLen (s .encrypt) (s .payload) ≤ length (s .work)
 
 abbrev pub AllFit : List Send → Type 0
@@ -76,8 +76,8 @@ Each R (a ∷ xs) (b ∷ bs) = R a b × Each R xs bs
 
 -- a frame was sealed, at its full length, and its payload opens as it was sent
 pub record Arrived (s : Send) (e : Event) : Type 0 where
-  pub sealed : e .sealed ≡ given (totalOf (askedOf s))
-  pub size : length (e .frame) ≡ totalOf (askedOf s)
+  pub sealed : e .sealed ≡ given (totalOf (askedIn s))
+  pub size : length (e .frame) ≡ totalOf (askedIn s)
   pub opened : e .opened ≡ given (s .payload)
 
 -- encrypted data, four bytes of MAC and two of trailer stand at a sealed frame's end

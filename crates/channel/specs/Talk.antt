@@ -30,8 +30,8 @@ abbrev pub directionOf : End → Direction
 directionOf Controller = AcuToPd
 directionOf Reader = PdToAcu
 
-abbrev pub askedOf : Send → Asked
-askedOf s = record { addr = s .addr; sqn = s .sqn; direction = directionOf (s .who); encrypt = s .encrypt; code = s .code; payload = s .payload }
+abbrev pub askedIn : Send → Asked
+askedIn s = record { addr = s .addr; sqn = s .sqn; direction = directionOf (s .who); encrypt = s .encrypt; code = s .code; payload = s .payload }
 
 -- what comes of it: what the seal answered, the frame on the line, the payload as the peer is shown it, and both ends' cipher calls
 pub record Event : Type 0 where
@@ -55,7 +55,7 @@ pub record Moved : Type 0 where
 -- one end seals, and the other unseals what is on the line
 unfoldable pub transfer : Session → Session → Send → Moved
 transfer from to s =
-    let x = sealOf from (askedOf s) (s .out) in
+    let x = sealOf from (askedIn s) (s .out) in
     let f = onLine (x .answer) (x .out) in
     let y = unsealOf to f (s .work) in
     record {
