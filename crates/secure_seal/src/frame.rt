@@ -7,8 +7,9 @@ ghost use lib.ListN.{length, take};
 ghost use Rattle.laws.specs.Over.{write};
 ghost use Rattle.packet_build.specs.Build.{Block.scb, bodyBytes, tailBytes};
 ghost use Rattle.packet_head.specs.Block.{typeOf};
-ghost use Rattle.secure_seal.specs.Seal.{typeFor, dataLen, dataOf, totalOf, askedOf, sealedFrame, sealOf, sealTold};
-ghost use Rattle.secure_seal.specs.Core.{Put, refusedWith};
+ghost use Rattle.secure_cipher.specs.Pad.{lengthAnswer};
+ghost use Rattle.secure_seal.specs.Seal.{typeFor, dataLen, dataOf, askedOf, sealedFrame, sealOf, sealTold};
+ghost use Rattle.secure_seal.specs.Core.{Put, frameTest, refusedWith};
 use packet_head::Address;
 use packet_head::ScsType;
 use packet_head::Sqn;
@@ -54,15 +55,35 @@ pub struct Sealed {
     pub session: Session,
 }
 
-// How much data the frame has.
-fn data_len(encrypt: bool, data: &[u8]) -> usize
-    ensures { λ r. ⌜ (r ≡ dataLen encrypt (now («data» .entry))) × (r ≤ length (now («data» .entry)) + 16) ⌝ }
+// How long the frame is.
+fn total_len(encrypt: bool, data: &[u8]) -> usize
+    ensures { λ r. ⌜ r ≡ 14 + dataLen encrypt (now («data» .entry)) ⌝ }
 {
     if encrypt {
-        data.len() / 16 * 16 + 16
+        data.len() / 16 * 16 + 30
     } else {
-        data.len()
+        data.len() + 14
     }
+}
+
+// The tests of a frame of total bytes, in the paper's order, for a buffer of `have`.
+fn test(sqn: Sqn, total: usize, have: usize) -> LengthAnswer
+    ensures { λ r. ⌜ lengthAnswer r ≡ frameTest (sqn .0) total have ⌝ }
+{
+    let n = sqn.value();
+    if 3 < n {
+        return LengthAnswer::Refused(Refusal::BadSqn(n));
+    }
+    if 65535 < total {
+        return LengthAnswer::Refused(Refusal::BufferOverflow {
+            need: total,
+            have: 65535,
+        });
+    }
+    if have < total {
+        return LengthAnswer::Refused(Refusal::NoRoom { need: total, have });
+    }
+    LengthAnswer::Of(total)
 }
 
 // Writes src over the whole of out.
@@ -131,12 +152,12 @@ fn put_frame(
     encrypt: bool,
     code: u8,
     data: &[u8],
-    total: usize,
     out: &mut [u8],
 ) -> ChainMac
-    requires { ⌜ (sqn .0 ≤ 3) × (total ≡ totalOf (askedOf addr sqn direction encrypt code (now «data»))) × (total ≤ 65535) × (total ≤ length (now out)) ⌝ }
+    requires { ⌜ (sqn .0 ≤ 3) × (14 + dataLen encrypt (now «data») ≤ 65535) × (14 + dataLen encrypt (now «data») ≤ length (now out)) ⌝ }
     ensures { λ r. ⌜ Put (sealedFrame keys start (askedOf addr sqn direction encrypt code (now («data» .entry)))) (now (out .entry)) (now (out .exit)) r ⌝ }
 {
+    let total = total_len(encrypt, data);
     let end = total - 6;
     put_head(addr, sqn, direction.scs_for(encrypt), code, total, out);
     let s_enc = keys.s_enc;
@@ -180,43 +201,18 @@ pub fn seal(
     if !secure_session::is_secure(state) {
         return refused(session, Refusal::WrongState);
     }
-    let n = sqn.value();
-    if 3 < n {
-        return refused(session, Refusal::BadSqn(n));
-    }
-    let total = 14 + data_len(encrypt, data);
-    if 65535 < total {
-        let most = Refusal::BufferOverflow {
-            need: total,
-            have: 65535,
-        };
-        return refused(session, most);
-    }
-    if out.len() < total {
-        let short = Refusal::NoRoom {
-            need: total,
-            have: out.len(),
-        };
-        return refused(session, short);
-    }
-    let keys = session.keys;
-    let start = session.send_from();
-    let mac = put_frame(
-        keys,
-        start,
-        addr,
-        sqn,
-        direction,
-        encrypt,
-        code,
-        data,
-        total,
-        out,
-    );
-    let full = mac.full;
-    Sealed {
-        answer: LengthAnswer::Of(total),
-        calls: mac.calls,
-        session: session.sent(full),
+    match test(sqn, total_len(encrypt, data), out.len()) {
+        LengthAnswer::Refused(e) => refused(session, e),
+        LengthAnswer::Of(total) => {
+            let keys = session.keys;
+            let start = session.send_from();
+            let mac = put_frame(keys, start, addr, sqn, direction, encrypt, code, data, out);
+            let full = mac.full;
+            Sealed {
+                answer: LengthAnswer::Of(total),
+                calls: mac.calls,
+                session: session.sent(full),
+            }
+        }
     }
 }

@@ -1,9 +1,12 @@
--- `secure_seal::frame::seal` meets its contract: its five returns are the five cases of sealing.
+-- `secure_seal::frame::seal` meets its contract: 16, what the tests of the frame answer, or the frame and the chain moved by its MAC.
 -- Assumes nothing.
-use mathlib.Core.Path.{ap}
-use Prim.Native.Nat.{ℕ, _+_}
-use Rattle.secure_seal.specs.Seal.{Asked, askedOf}
-use Rattle.secure_seal.proofs.SealCases.{told-not-secure, told-bad-sqn, told-too-long, told-no-room, told-done}
+use mathlib.Core.Path.{_≡_, ap, _∙_}
+use Prim.Native.Nat.{ℕ}
+use lib.ListN.{length}
+use Rattle.secure_cipher.specs.Pad.{lengthAnswer}
+use Rattle.secure_seal.specs.Seal.{Asked, askedOf, totalOf}
+use Rattle.secure_seal.specs.Core.{frameTest}
+use Rattle.secure_seal.proofs.SealCases.{passed, told-not-secure, told-refused, told-done}
 use borrow.Author.Needs.{needs}
 use Rattle.secure_seal.proofs.frame.seal.Statement.{statement}
 use Rattle.secure_seal.proofs.frame.seal.Tie as tie
@@ -18,56 +21,41 @@ returns c =
     let a = s .args in
     told-not-secure (a .session) (asked s) (a .out .now) _ (c .before .before .is-secure .ensures) (c .before .if1 .taken) (c .refused .ensures)
 
+-- what the tests answered, of the paper's total
+answered : (c : tie.After-test) → let s = c .before .before .before .before .before .before in lengthAnswer (c .test .result) ≡ frameTest (asked s .sqn) (totalOf (asked s)) (length (s .args .out .now))
+answered c =
+    let a = c .before .before .before .before .before .before .args in
+    c .test .ensures ∙ ap (λ (t : ℕ). frameTest (a .sqn .0) t (length (a .out .now))) (c .before .total-len .ensures)
+
+put-frame-requires : tie.Need-put-frame-requires
+put-frame-requires c κs =
+    let k = c .before .before .before .before in
+    let s = k .before .before .before .before .before .before .before .before in
+    let p = passed (asked s) (length (s .args .out .now)) (k .total .given .0 .0) (ap lengthAnswer (k .total .given .1)) (answered (k .before .before)) in
+    (p .sqn, p .most, p .room)
+
 returns-2 : tie.Need-returns-2
 returns-2 c =
-    let v = c .before .before in
-    let s = v .before .before .before .before .before in
+    let k = c .before .before in
+    let i = k .before .before .before .before .before in
+    let s = i .before .before .before in
     let a = s .args in
-    told-bad-sqn (a .session) (asked s) (a .out .now) _ (v .before .before .is-secure .ensures) (v .before .if1 .left) _ (v .value .ensures) (c .before .if2 .taken) (c .refused2 .ensures)
+    told-refused (a .session) (asked s) (a .out .now) _ (i .is-secure .ensures) (k .before .before .before .before .if1 .left) (answered (k .before .before)) (k .e .given .0 .0)
+    (ap lengthAnswer (k .e .given .1)) (c .refused2 .ensures)
 
 returns-3 : tie.Need-returns-3
 returns-3 c =
-    let d = c .before .before in
-    let s = d .before .before .before .before .before .before .before in
-    let a = s .args in
-    told-too-long (a .session) (asked s) (a .out .now) _ (d .before .before .before .before .is-secure .ensures) (d .before .before .before .if1 .left) _ (d .before .before .value .ensures) (d .before .if2 .left) _
-    (ap (λ (n : ℕ). 14 + n) (d .data-len .ensures .0)) (c .before .if3 .taken) (c .refused3 .ensures)
-
-returns-4 : tie.Need-returns-4
-returns-4 c =
-    let d = c .before .before .before in
-    let s = d .before .before .before .before .before .before .before in
-    let a = s .args in
-    told-no-room (a .session) (asked s) (a .out .now) _ (d .before .before .before .before .is-secure .ensures) (d .before .before .before .if1 .left) _ (d .before .before .value .ensures) (d .before .if2 .left) _
-    (ap (λ (n : ℕ). 14 + n) (d .data-len .ensures .0)) (c .before .before .if3 .left) (c .before .if4 .taken) (c .refused4 .ensures)
-
-returns-5 : tie.Need-returns-5
-returns-5 c =
     let p = c .before .before .before .before in
-    let d = p .before .before .before .before .before .before in
-    let s = d .before .before .before .before .before .before .before in
+    let k = p .before .before .before .before .before in
+    let i = k .before .before .before .before .before in
+    let s = i .before .before .before in
     let a = s .args in
-    told-done (a .session) (asked s) (a .out .now) _ (d .before .before .before .before .is-secure .ensures) (d .before .before .before .if1 .left) _ (d .before .before .value .ensures) (d .before .if2 .left) _
-    (ap (λ (n : ℕ). 14 + n) (d .data-len .ensures .0)) (p .put-frame .result) (p .before .before .send-from .result) _ _ (p .before .before .before .before .before .if3 .left) (p .before .before .before .before .if4 .left) (p .before .before .send-from .ensures) (p .put-frame .ensures) (c .sent .ensures)
+    told-done (a .session) (asked s) (a .out .now) _ (i .is-secure .ensures) (k .before .before .before .before .if1 .left) (answered (k .before .before)) (k .total .given .0 .0)
+    (p .put-frame .result) (p .before .before .send-from .result) _ _ (ap lengthAnswer (k .total .given .1)) (p .before .before .send-from .ensures) (p .put-frame .ensures) (c .sent .ensures)
 
 pub seal-spec : {M : Type 1} → statement M
 seal-spec =
     tie.close
-    (tie.spec
-    (λ c κs. search needs)
-    (λ c κs. search needs)
-    returns
-    (λ c κs. search needs)
-    (λ c κs. search needs)
-    returns-2
-    (λ c κs. search needs)
-    (λ c. search needs)
-    (λ c κs. search needs)
-    returns-3
-    (λ c κs. search needs)
-    returns-4
-    (λ c κs. search needs)
-    (λ c κs. search needs)
-    (λ c κs. search needs)
-    (λ c. search needs)
-    returns-5)
+    (tie.spec (λ c κs. search needs) (λ c κs. search needs) returns
+    (λ c κs. search needs) (λ c κs. search needs) (λ c. search needs) (λ c κs. search needs) (λ c. search needs) (λ c κs. search needs)
+    put-frame-requires (λ c κs. search needs) returns-2 (λ c. search needs) returns-3)
