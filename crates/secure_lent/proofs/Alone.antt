@@ -15,7 +15,6 @@ use prog.Wp.{Heap, Calls, Loops, WpFn, Tables}
 use ghost.Atoms.{Atoms}
 use types.Kit.{Given, Item, ‵, raw, _⊛_, ⋆, some, mean, _$_, _∵_, !, qed, by, move, keep, drop, use0, use1, split, join, pick, fsplit, fsplit3, fjoin, fjoin3, feqI, suffices, frame, done}
 use types.Run.{look, init, forget, stop, from, load, and-then, no-more, returns, enter, alloc1, alloc0, params1, pass1, pass0, free1, free0}
-use types.Part.{whole}
 use types.SemTy.{Body}
 use sound.WpLaws.{FmC, fmOf, WpFn-mono}
 use denote.RattleType.{RattleType, owns}
@@ -37,7 +36,6 @@ use Rattle.secure_session.proofs.session.Session as T
 use Rattle.secure_session.proofs.session.Session.Laws as T′
 use Rattle.secure_lent.proofs.Lending.{Result, lentTy, takes, calls-stores}
 
--- ---- nothing
 module _ {S R : RattleType} {σ ρ : Ty} (B : Result S R σ ρ) (k : Name) {M : Type 1} (𝓤 : URA M) (Φ : Session → S .Denot → SProp 𝓤) where
   abbrev pub ended : Ended
   ended = record { signature = record { lifetimes = 1; outlives = []; params = RefMutOf (0 ∷ []) tt (plain (λ κs. T.the-row)) (λ κs. tt) ∷ []; result = plain (λ κs. R) }; kept = (yes, tt) }
@@ -83,8 +81,8 @@ module _ {S R : RattleType} {σ ρ : Ty} (B : Result S R σ ρ) (k : Name) {M : 
     abbrev Tokens : Item 𝓤
     Tokens = ‵ ftrue
 
-    asked : Is T.the-row h (T′.lowered h ∷ []) → ent 𝓤 (⋆ 𝓤 H A ([])) (Callee H A .pre to)
-    asked g = qed W ([]) ∵ nothing ! $ owned ! T.the-row (Is T.the-row) (LL.makes T.the-type T′.the-plain 𝓤 H A) h _ g $ fjoin ! $ nothing ! $ join ! $ frame ! $ done !
+    asked : Is T.the-row h (T′.lowered h ∷ []) → ent 𝓤 (emp 𝓤) (Callee H A .pre to)
+    asked g = qed W [] ∵ nothing ! $ owned ! T.the-row (Is T.the-row) (LL.makes T.the-type T′.the-plain 𝓤 H A) h _ g $ fjoin ! $ nothing ! $ join ! $ frame ! $ done !
 
     -- what the callee says of what it returned
     abbrev Said : S .Denot → SProp 𝓤
@@ -93,7 +91,7 @@ module _ {S R : RattleType} {σ ρ : Ty} (B : Result S R σ ρ) (k : Name) {M : 
     exits : (r : S .Denot) → Is S r (B .whole .low r ∷ []) → ent 𝓤 (⋆ 𝓤 H A (‵ (fobs γ (T.the-row .coded .code (B .session r))) ∷ ‵ (fbor κ (Body (mem T.the-row) b o γ)) ∷ ‵ (flft κ q) ∷ raw (mean 𝓤 H A Tokens) ∷ raw (Said r) ∷ [])) (Post (B .part .low (B .answer r)))
     exits r is =
         qed W (‵ (fobs γ (T.the-row .coded .code (B .session r))) ∷ ‵ (fbor κ (Body (mem T.the-row) b o γ)) ∷ ‵ (flft κ q) ∷ raw (mean 𝓤 H A Tokens) ∷ raw (Said r) ∷ []) ∵
-        move ! (4 ∷ []) $ use1 W (some (λ (zs : Lasts by-value tt (h, tt)). ‵ (lasts by-value tt (h, tt) zs) ⊛ raw (Φ h r))) (id⊢ 𝓤 _) $ pick ! (λ zs. split ! $ drop ! $ move ! (0 ∷ []) $ use1 W (raw (Φ h (B .both (B .answer r) (B .session r)))) (subst (λ (r′ : S .Denot). ent 𝓤 (Φ h r) (Φ h r′)) (sym (B .apart r)) (id⊢ 𝓤 _)) $
+        move ! (4 ∷ []) $ use1 W (some (λ (zs : Lasts by-value tt (h, tt)). ‵ (lasts by-value tt (h, tt) zs) ⊛ raw (Φ h r))) (id⊢ 𝓤 _) $ pick ! (λ zs. split ! $ drop ! $ use1 W (raw (Φ h (B .both (B .answer r) (B .session r)))) (subst (λ (r′ : S .Denot). ent 𝓤 (Φ h r) (Φ h r′)) (sym (B .apart r)) (id⊢ 𝓤 _)) $
         suffices ! _ (via 𝓤 _ (comm∗ 𝓤 (Φ h (B .both (B .answer r) (B .session r))) (onExit 𝓤 H A ended stayed (κ, tt) (q, tt) at (B .part .low (B .answer r)) (B .answer r) arg (B .session r, tt))) (ends-at 𝓤 H A ended stayed clauses W (((κ, tt), (q, tt), tt, arg, at), tt) (B .part .low (B .answer r)) (B .answer r) (B .session r, tt) (tt, tt))) $ frame ! $
         move ! (2 ∷ 3 ∷ []) $ join ! $ frame ! $ feqI ! (List Val) (vptr b o ∷ []) (vptr b o ∷ []) refl $ fjoin3 ! $ nothing ! $ move ! (1 ∷ 0 ∷ []) $ fjoin ! $
         owned ! R (Is R) (B .part .makes 𝓤 H A W) (B .answer r) _ (B .answer-is r is) $ move ! (1 ∷ 0 ∷ []) $ done !)
@@ -104,10 +102,13 @@ module _ {S R : RattleType} {σ ρ : Ty} (B : Result S R σ ρ) (k : Name) {M : 
           qed W ((‵ (flft κ q) ⊛ Tokens) ∷ ‵ (owns (MutRef (named 0) κ T.the-row ∷ []) arg at) ∷ []) ∵ enter ! C Λ lent (vptr b o ∷ []) _ $
           alloc1 ! (λ l₀. alloc1 ! (λ l₁. alloc1 ! (λ l₂. alloc1 ! (λ l₃. alloc0 ! $ params1 ! $
           pass1 ! (init ! 4 refl (tt, tt)) $ pass0 ! $
+          -- what is owned is taken apart
           move ! (9 ∷ []) $ fsplit ! $ fsplit3 ! $ drop ! $ move ! (2 ∷ []) $ drop ! $ move ! (10 ∷ []) $ split ! $ move ! (2 ∷ 3 ∷ 0 ∷ 4 ∷ 8 ∷ []) $
+          -- the session is copied
           takes ! h refl refl (λ g.
           use0 W (raw (Callee H A .pre to)) (asked g) $ move ! (0 ∷ 1 ∷ 3 ∷ 6 ∷ 9 ∷ []) $
           calls-stores B ! fm h (Callee H A) known to (mean 𝓤 H A Tokens) Said (λ v. id⊢ 𝓤 _) refl refl refl (and-then ! (load ! (from ! (stop !)) (look ! 5 refl)) (no-more !)) (λ r is.
+          -- [obs; the borrow; its token; the other tokens; what the callee said; the locals …]
           returns ! (look ! 7 refl) $ forget ! 7 refl $ forget ! 5 refl $ forget ! 6 refl $ forget ! 8 refl $
           move ! (7 ∷ 13 ∷ []) $ free1 ! $ move ! (5 ∷ 11 ∷ []) $ free1 ! $ move ! (5 ∷ 9 ∷ []) $ free1 ! $ move ! (5 ∷ 7 ∷ []) $ free1 ! $ free0 ! $
           keep ! (0 ∷ 1 ∷ 2 ∷ 3 ∷ 4 ∷ []) $ by ! (exits r is)))))))

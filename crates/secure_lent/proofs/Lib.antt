@@ -7,3 +7,4 @@ pub mod ThreeArrays
 pub mod Slice
 pub mod SliceArray
 pub mod Slices
+pub mod Sealing

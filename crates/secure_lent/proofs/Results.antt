@@ -22,6 +22,16 @@ use Rattle.secure_session.proofs.session.SteppedBlock as B
 use Rattle.secure_session.proofs.session.SteppedBlock.Laws as B′
 use Rattle.secure_session.proofs.session.BlockAnswer as N
 use Rattle.secure_session.proofs.session.BlockAnswer.Laws as N′
+use Rattle.secure_seal.specs.declared.seal.Sealed.{Sealed}
+use Rattle.secure_seal.proofs.seal.Sealed as D
+use Rattle.secure_seal.proofs.seal.Sealed.Laws as D′
+use Rattle.secure_unseal.specs.declared.unseal.Unsealed.{Unsealed}
+use Rattle.secure_unseal.proofs.unseal.Unsealed as U
+use Rattle.secure_unseal.proofs.unseal.Unsealed.Laws as U′
+use Rattle.secure_lent.proofs.lent.SealedLent as L
+use Rattle.secure_lent.proofs.lent.SealedLent.Laws as L′
+use Rattle.secure_lent.proofs.lent.UnsealedLent as P
+use Rattle.secure_lent.proofs.lent.UnsealedLent.Laws as P′
 use Rattle.secure_lent.proofs.Lending.{Datum, Result, near}
 
 -- ---- a session alone
@@ -117,6 +127,78 @@ with-block = record {
   apart = λ r. refl;
   session-is = λ r is. subst (Is T.the-row (r .session)) (T′.lowers .val-is (r .session) _ (LL.owed B.the-type B′.the-laws r _ is .1 .1 .0)) (LL.owed B.the-type B′.the-laws r _ is .1 .1 .0);
   answer-is = block-answer-is;
+  session-at = λ i. copy (place i (field 2 ∷ []));
+  answer-at = λ i. aggregate (copy (place i (field 0 ∷ [])) ∷ copy (place i (field 1 ∷ [])) ∷ []);
+  reads-session = λ t r n e c. load t (near t e (fld t refl (stop t))) (look-in t n (sub t 2 refl c));
+  reads-answer = λ t r n e c. agg t (and-then t (load t (near t e (fld t refl (stop t))) (look-in t n (sub t 0 refl c))) (and-then t (load t (near t e (fld t refl (stop t))) (look-in t n (sub t 1 refl c))) (no-more t)));
+}
+
+-- ---- what sealing answers
+abbrev pub a-sealed-answer : Datum L.the-row L′.mir
+a-sealed-answer = record {
+  low = L′.lowered;
+  tells = L′.lowers .val-is;
+  typed = λ 𝓤 H A W x p. LL.lawful L.the-type L′.the-laws 𝓤 H A W .typed x _ p .0;
+  makes = λ 𝓤 H A W. LL.makes L.the-type L′.the-plain 𝓤 H A;
+}
+
+pub sealed-answer-is : (r : Sealed) → Is D.the-row r (D′.lowered r ∷ []) → Is L.the-row (record { answer = r .answer; calls = r .calls }) (L′.lowered (record { answer = r .answer; calls = r .calls }) ∷ [])
+sealed-answer-is r is =
+    let w = LL.owed D.the-type D′.the-laws r _ is in
+    let p = LL.owes L.the-type L′.the-laws (record { answer = r .answer; calls = r .calls }) (w .0, (w .1 .0, tt)) in
+    subst (Is L.the-row (record { answer = r .answer; calls = r .calls })) (L′.lowers .val-is (record { answer = r .answer; calls = r .calls }) _ p) p
+
+abbrev pub with-length : Result D.the-row L.the-row D′.mir L′.mir
+with-length = record {
+  whole = record {
+    low = D′.lowered;
+    tells = D′.lowers .val-is;
+    typed = λ 𝓤 H A W x p. LL.lawful D.the-type D′.the-laws 𝓤 H A W .typed x _ p .0;
+    makes = λ 𝓤 H A W. LL.makes D.the-type D′.the-plain 𝓤 H A;
+  };
+  part = a-sealed-answer;
+  session = λ r. r .session;
+  answer = λ r. record { answer = r .answer; calls = r .calls };
+  both = λ a s. record { answer = a .answer; calls = a .calls; session = s };
+  apart = λ r. refl;
+  session-is = λ r is. subst (Is T.the-row (r .session)) (T′.lowers .val-is (r .session) _ (LL.owed D.the-type D′.the-laws r _ is .1 .1 .0)) (LL.owed D.the-type D′.the-laws r _ is .1 .1 .0);
+  answer-is = sealed-answer-is;
+  session-at = λ i. copy (place i (field 2 ∷ []));
+  answer-at = λ i. aggregate (copy (place i (field 0 ∷ [])) ∷ copy (place i (field 1 ∷ [])) ∷ []);
+  reads-session = λ t r n e c. load t (near t e (fld t refl (stop t))) (look-in t n (sub t 2 refl c));
+  reads-answer = λ t r n e c. agg t (and-then t (load t (near t e (fld t refl (stop t))) (look-in t n (sub t 0 refl c))) (and-then t (load t (near t e (fld t refl (stop t))) (look-in t n (sub t 1 refl c))) (no-more t)));
+}
+
+-- ---- what unsealing answers
+abbrev pub a-unsealed-answer : Datum P.the-row P′.mir
+a-unsealed-answer = record {
+  low = P′.lowered;
+  tells = P′.lowers .val-is;
+  typed = λ 𝓤 H A W x p. LL.lawful P.the-type P′.the-laws 𝓤 H A W .typed x _ p .0;
+  makes = λ 𝓤 H A W. LL.makes P.the-type P′.the-plain 𝓤 H A;
+}
+
+pub unsealed-answer-is : (r : Unsealed) → Is U.the-row r (U′.lowered r ∷ []) → Is P.the-row (record { answer = r .answer; calls = r .calls }) (P′.lowered (record { answer = r .answer; calls = r .calls }) ∷ [])
+unsealed-answer-is r is =
+    let w = LL.owed U.the-type U′.the-laws r _ is in
+    let p = LL.owes P.the-type P′.the-laws (record { answer = r .answer; calls = r .calls }) (w .0, (w .1 .0, tt)) in
+    subst (Is P.the-row (record { answer = r .answer; calls = r .calls })) (P′.lowers .val-is (record { answer = r .answer; calls = r .calls }) _ p) p
+
+abbrev pub with-place : Result U.the-row P.the-row U′.mir P′.mir
+with-place = record {
+  whole = record {
+    low = U′.lowered;
+    tells = U′.lowers .val-is;
+    typed = λ 𝓤 H A W x p. LL.lawful U.the-type U′.the-laws 𝓤 H A W .typed x _ p .0;
+    makes = λ 𝓤 H A W. LL.makes U.the-type U′.the-plain 𝓤 H A;
+  };
+  part = a-unsealed-answer;
+  session = λ r. r .session;
+  answer = λ r. record { answer = r .answer; calls = r .calls };
+  both = λ a s. record { answer = a .answer; calls = a .calls; session = s };
+  apart = λ r. refl;
+  session-is = λ r is. subst (Is T.the-row (r .session)) (T′.lowers .val-is (r .session) _ (LL.owed U.the-type U′.the-laws r _ is .1 .1 .0)) (LL.owed U.the-type U′.the-laws r _ is .1 .1 .0);
+  answer-is = unsealed-answer-is;
   session-at = λ i. copy (place i (field 2 ∷ []));
   answer-at = λ i. aggregate (copy (place i (field 0 ∷ [])) ∷ copy (place i (field 1 ∷ [])) ∷ []);
   reads-session = λ t r n e c. load t (near t e (fld t refl (stop t))) (look-in t n (sub t 2 refl c));

@@ -16,7 +16,6 @@ use prog.Wp.{Heap, Calls, Loops, WpFn, Tables}
 use ghost.Atoms.{Atoms}
 use types.Kit.{Given, Item, ‵, raw, _⊛_, ⋆, some, mean, _$_, _∵_, !, qed, by, move, keep, drop, use1, use2, split, join, pick, fsplit, fsplit3, fjoin, fjoin3, feqI, suffices, frame, done}
 use types.Run.{look, init, forget, stop, from, load, and-then, no-more, returns, enter, alloc1, alloc0, params1, pass1, pass0, free1, free0}
-use types.Part.{whole}
 use types.SemTy.{Body}
 use sound.WpLaws.{FmC, fmOf, WpFn-mono}
 use denote.RattleType.{RattleType, owns}
@@ -39,7 +38,6 @@ use Rattle.secure_session.proofs.session.Session as T
 use Rattle.secure_session.proofs.session.Session.Laws as T′
 use Rattle.secure_lent.proofs.Lending.{sliceTy, Result, lentTy, takes, calls-stores}
 
--- ---- a slice
 module _ {S R : RattleType} {σ ρ : Ty} (B : Result S R σ ρ) (k : Name) {M : Type 1} (𝓤 : URA M) (Φ : Session → List ℕ → S .Denot → SProp 𝓤) where
   abbrev pub ended : Ended
   ended = record { signature = record { lifetimes = 2; outlives = []; params = RefMutOf (0 ∷ []) tt (plain (λ κs. T.the-row)) (λ κs. tt) ∷ SliceRefOf (1 ∷ []) tt (plain (λ κs. u8)) (λ κs. tt) ∷ []; result = plain (λ κs. R) }; kept = (yes, (yes, tt)) }
@@ -101,7 +99,7 @@ module _ {S R : RattleType} {σ ρ : Ty} (B : Result S R σ ρ) (k : Name) {M : 
     exits : (r : S .Denot) → Is S r (B .whole .low r ∷ []) → ent 𝓤 (⋆ 𝓤 H A (‵ (fobs γ (T.the-row .coded .code (B .session r))) ∷ ‵ (fbor κ (Body (mem T.the-row) b o γ)) ∷ ‵ (flft κ q) ∷ raw (mean 𝓤 H A Tokens) ∷ raw (Said r) ∷ ‵ OwnD ∷ [])) (Post (B .part .low (B .answer r)))
     exits r is =
         qed W (‵ (fobs γ (T.the-row .coded .code (B .session r))) ∷ ‵ (fbor κ (Body (mem T.the-row) b o γ)) ∷ ‵ (flft κ q) ∷ raw (mean 𝓤 H A Tokens) ∷ raw (Said r) ∷ ‵ OwnD ∷ []) ∵
-        move ! (4 ∷ []) $ use1 W (some (λ (zs : Lasts by-value (κ₁, tt) (h, (d, tt))). ‵ (lasts by-value (κ₁, tt) (h, (d, tt)) zs) ⊛ raw (Φ h (d .now) r))) (id⊢ 𝓤 _) $ pick ! (λ zs. split ! $ drop ! $ move ! (0 ∷ []) $ use1 W (raw (Φ h (d .now) (B .both (B .answer r) (B .session r)))) (subst (λ (r′ : S .Denot). ent 𝓤 (Φ h (d .now) r) (Φ h (d .now) r′)) (sym (B .apart r)) (id⊢ 𝓤 _)) $
+        move ! (4 ∷ []) $ use1 W (some (λ (zs : Lasts by-value (κ₁, tt) (h, (d, tt))). ‵ (lasts by-value (κ₁, tt) (h, (d, tt)) zs) ⊛ raw (Φ h (d .now) r))) (id⊢ 𝓤 _) $ pick ! (λ zs. split ! $ drop ! $ use1 W (raw (Φ h (d .now) (B .both (B .answer r) (B .session r)))) (subst (λ (r′ : S .Denot). ent 𝓤 (Φ h (d .now) r) (Φ h (d .now) r′)) (sym (B .apart r)) (id⊢ 𝓤 _)) $
         suffices ! _ (via 𝓤 _ (comm∗ 𝓤 (Φ h (d .now) (B .both (B .answer r) (B .session r))) (onExit 𝓤 H A ended stayed (κ, (κ₁, tt)) (q, (q₁, tt)) at (B .part .low (B .answer r)) (B .answer r) arg (B .session r, (tt, tt)))) (ends-at 𝓤 H A ended stayed clauses W (((κ, (κ₁, tt)), (q, (q₁, tt)), tt, arg, at), tt) (B .part .low (B .answer r)) (B .answer r) (B .session r, (tt, tt)) (tt, (tt, tt)))) $ frame ! $
         move ! (2 ∷ 3 ∷ []) $ join ! $ frame ! $ feqI ! (List Val) (vptr b o ∷ []) (vptr b o ∷ []) refl $ fjoin3 ! $ nothing ! $ move ! (2 ∷ 0 ∷ []) $ fjoin ! $ move ! (1 ∷ 0 ∷ []) $ fjoin ! $
         owned ! R (Is R) (B .part .makes 𝓤 H A W) (B .answer r) _ (B .answer-is r is) $ move ! (1 ∷ 0 ∷ []) $ done !)
@@ -112,10 +110,13 @@ module _ {S R : RattleType} {σ ρ : Ty} (B : Result S R σ ρ) (k : Name) {M : 
           qed W ((‵ (flft κ q) ⊛ Tokens) ∷ ‵ (owns (MutRef (named 0) κ T.the-row ∷ ShrSlice (named 1) κ₁ u8 ∷ []) arg at) ∷ []) ∵ enter ! C Λ lent (vptr b o ∷ vd ∷ []) _ $
           alloc1 ! (λ l₀. alloc1 ! (λ l₁. alloc1 ! (λ l₂. alloc1 ! (λ l₃. alloc1 ! (λ l₄. alloc0 ! $ params1 ! $
           pass1 ! (init ! 6 refl (tt, tt)) $ pass1 ! (init ! 4 refl (shr-slice-lawful 𝓤 H A W (named 1) κ₁ u8 .typed d (vd ∷ []) pd .0)) $ pass0 ! $
+          -- what is owned is taken apart
           move ! (11 ∷ []) $ fsplit ! $ fsplit3 ! $ drop ! $ move ! (2 ∷ []) $ fsplit ! $ use1 W (‵ OwnD ⊛ ‵ OwnD) (shr-slice-copy 𝓤 H A W (named 1) κ₁ u8 .twice d (vd ∷ [])) $ split ! $ move ! (2 ∷ []) $ drop ! $ move ! (14 ∷ []) $ split ! $ move ! (4 ∷ 5 ∷ 0 ∷ 6 ∷ 12 ∷ []) $
+          -- the session is copied
           takes ! h refl refl (λ g.
           move ! (3 ∷ 4 ∷ []) $ use2 W (raw (Callee H A .pre to)) (asked g) $ move ! (0 ∷ 1 ∷ 3 ∷ 6 ∷ 11 ∷ []) $
           calls-stores B ! fm h (Callee H A) known to (mean 𝓤 H A Tokens) Said (λ v. id⊢ 𝓤 _) refl refl refl (and-then ! (load ! (from ! (stop !)) (look ! 5 refl)) (and-then ! (load ! (from ! (stop !)) (look ! 9 refl)) (no-more !))) (λ r is.
+          -- [obs; the borrow; its token; the other tokens; what the callee said; the locals …]
           returns ! (look ! 7 refl) $ forget ! 7 refl $ forget ! 5 refl $ forget ! 12 refl $ forget ! 6 refl $ forget ! 8 refl $
           move ! (7 ∷ 15 ∷ []) $ free1 ! $ move ! (5 ∷ 13 ∷ []) $ free1 ! $ move ! (10 ∷ 11 ∷ []) $ free1 ! $ move ! (5 ∷ 9 ∷ []) $ free1 ! $ move ! (5 ∷ 7 ∷ []) $ free1 ! $ free0 ! $
           keep ! (0 ∷ 1 ∷ 2 ∷ 3 ∷ 4 ∷ 5 ∷ []) $ by ! (exits r is))))))))

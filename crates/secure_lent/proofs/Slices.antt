@@ -39,7 +39,6 @@ use Rattle.secure_session.proofs.session.Session as T
 use Rattle.secure_session.proofs.session.Session.Laws as T′
 use Rattle.secure_lent.proofs.Lending.{sliceTy, Result, lentTy, takes, calls-stores}
 
--- ---- a slice and a buffer
 module _ {S R : RattleType} {σ ρ : Ty} (B : Result S R σ ρ) (k : Name) {M : Type 1} (𝓤 : URA M) (Φ : Session → List ℕ → List ℕ → List ℕ → S .Denot → SProp 𝓤) where
   abbrev pub ended : Ended
   ended = record { signature = record { lifetimes = 3; outlives = []; params = RefMutOf (0 ∷ []) tt (plain (λ κs. T.the-row)) (λ κs. tt) ∷ SliceRefOf (1 ∷ []) tt (plain (λ κs. u8)) (λ κs. tt) ∷ SliceRefMutOf (2 ∷ []) tt (plain (λ κs. u8)) (λ κs. tt) ∷ []; result = plain (λ κs. R) }; kept = (yes, (yes, (yes, tt))) }
@@ -118,12 +117,16 @@ module _ {S R : RattleType} {σ ρ : Ty} (B : Result S R σ ρ) (k : Name) {M : 
           qed W ((‵ (flft κ q) ⊛ Tokens) ∷ ‵ (owns (MutRef (named 0) κ T.the-row ∷ ShrSlice (named 1) κ₁ u8 ∷ MutSlice (named 2) κ₂ u8 ∷ []) arg at) ∷ []) ∵ enter ! C Λ lent (vptr b o ∷ vd ∷ vw ∷ []) _ $
           alloc1 ! (λ l₀. alloc1 ! (λ l₁. alloc1 ! (λ l₂. alloc1 ! (λ l₃. alloc1 ! (λ l₄. alloc1 ! (λ l₅. alloc1 ! (λ l₆. alloc1 ! (λ l₇. alloc0 ! $ params1 ! $
           pass1 ! (init ! 12 refl (tt, tt)) $ pass1 ! (init ! 10 refl (shr-slice-lawful 𝓤 H A W (named 1) κ₁ u8 .typed d (vd ∷ []) pd .0)) $ pass1 ! (init ! 8 refl (mut-slice-lawful 𝓤 H A W (named 2) κ₂ u8 .typed w (vw ∷ []) pw .0)) $ pass0 ! $
+          -- what is owned is taken apart
           move ! (17 ∷ []) $ fsplit ! $ fsplit3 ! $ drop ! $ move ! (2 ∷ []) $ fsplit ! $ use1 W (‵ OwnD ⊛ ‵ OwnD) (shr-slice-copy 𝓤 H A W (named 1) κ₁ u8 .twice d (vd ∷ [])) $ split ! $ move ! (2 ∷ []) $ fsplit ! $ move ! (1 ∷ []) $ drop ! $ move ! (21 ∷ []) $ split ! $ move ! (5 ∷ 6 ∷ 0 ∷ 11 ∷ 19 ∷ []) $
+          -- the session is copied
           takes ! h refl refl (λ g.
+          -- the buffer is lent again
           assigns ! (addr ! (from ! (fld ! refl (hop ! (look-in ! 14 (sub ! 0 refl (whole !))) (stop !))))) (from ! (stop !)) (init ! 9 refl (tt, tt)) $
           assigns ! (agg ! (and-then ! (load ! (from ! (stop !)) (look ! 9 refl)) (and-then ! (load ! (from ! (fld ! refl (stop !))) (look-in ! 14 (sub ! 1 refl (whole !)))) (no-more !)))) (from ! (stop !)) (init ! 7 refl (tt, (tt, (record { fits = pw .0 .1 .0 }, tt)))) $
           move ! (3 ∷ 4 ∷ 5 ∷ []) $ use3 W (raw (Callee H A .pre to)) (asked g) $ move ! (0 ∷ 1 ∷ 3 ∷ 10 ∷ 17 ∷ []) $
           calls-stores B ! fm h (Callee H A) known to (mean 𝓤 H A Tokens) Said (λ v. id⊢ 𝓤 _) refl refl refl (and-then ! (load ! (from ! (stop !)) (look ! 5 refl)) (and-then ! (load ! (from ! (stop !)) (look ! 15 refl)) (and-then ! (load ! (from ! (stop !)) (look ! 7 refl)) (no-more !)))) (λ r is.
+          -- [obs; the borrow; its token; the other tokens; what the callee said; the locals …]
           returns ! (look ! 7 refl) $ forget ! 7 refl $ forget ! 5 refl $ forget ! 18 refl $ forget ! 16 refl $ forget ! 6 refl $ forget ! 8 refl $ forget ! 12 refl $ forget ! 10 refl $
           move ! (7 ∷ 21 ∷ []) $ free1 ! $ move ! (5 ∷ 19 ∷ []) $ free1 ! $ move ! (16 ∷ 17 ∷ []) $ free1 ! $ move ! (14 ∷ 15 ∷ []) $ free1 ! $ move ! (5 ∷ 13 ∷ []) $ free1 ! $ move ! (5 ∷ 11 ∷ []) $ free1 ! $ move ! (8 ∷ 9 ∷ []) $ free1 ! $ move ! (6 ∷ 7 ∷ []) $ free1 ! $ free0 ! $
           keep ! (0 ∷ 1 ∷ 2 ∷ 3 ∷ 4 ∷ 5 ∷ []) $ by ! (exits r is)))))))))))

@@ -3,9 +3,23 @@ ghost use mathlib.Core.Path.{_≡_};
 ghost use Rattle.secure_session.specs.Session.{wipedOf};
 ghost use Rattle.secure_session.specs.Handshake.{Step, challengeOf, receiveCcryptOf, confirmOf, receiveChallengeOf, receiveScryptOf, stepped, steppedBlock, blockBeside};
 ghost use Rattle.secure_session.specs.Channel.{makeMac, verifyOf};
+use secure_cipher::LengthAnswer;
 use secure_session::BlockAnswer;
 use secure_session::Outcome;
 use secure_session::Session;
+use secure_unseal::PlaceAnswer;
+
+// How long the frame is; how often the cipher was called.
+pub struct SealedLent {
+    pub answer: LengthAnswer,
+    pub calls: usize,
+}
+
+// Where the payload stands; how often the cipher was called.
+pub struct UnsealedLent {
+    pub answer: PlaceAnswer,
+    pub calls: usize,
+}
 
 pub fn wipe(session: &mut Session)
     ensures { λ r. ⌜ now (session .exit) ≡ wipedOf (now (session .entry)) ⌝ }

@@ -1,6 +1,8 @@
 // A session that is lent, and altered where the caller keeps it.
 mod lent;
 
+pub use lent::SealedLent;
+pub use lent::UnsealedLent;
 pub use lent::challenge;
 pub use lent::confirm_rmac_i;
 pub use lent::mac;
