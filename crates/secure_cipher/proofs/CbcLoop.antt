@@ -2,20 +2,18 @@
 -- Assumes nothing.
 use mathlib.Core.Path.{_≡_, refl, sym, ap, _∙_}
 use mathlib.Core.List.{List, [], _∷_, _++_, append-assoc, append-nil}
-use Prim.Native.Nat.{ℕ, suc, _+_, _-_, _*_, _/_, _≤_, _<_}
-use native.Mathlib.Nat.{sub-zero}
+use Prim.Native.Nat.{ℕ, _+_, _*_, _/_, _≤_, _<_}
 use native.Mathlib.Omega.{arith}
 use lib.ListN.{length, take, drop, length-append}
-use lib.Seq.{drop-drop}
 use Rattle.laws.specs.Bytes.{xorl}
-use Rattle.laws.specs.Blocks.{cut, blocks, flat}
+use Rattle.laws.specs.Blocks.{blocks, flat}
 use Rattle.laws.specs.Over.{write}
-use Rattle.laws.proofs.BlockLists.{cut-suc}
 use Rattle.laws.proofs.Overwrite.{write-nil, write-write, length-write}
 use Rattle.aes.specs.Cipher.{E, D}
 use Rattle.secure_cipher.specs.Pad.{padData}
 use Rattle.secure_cipher.specs.Cbc.{encRun, decRun, hide}
 use Rattle.secure_cipher.proofs.PadLaws.{length-padData}
+use Rattle.secure_cipher.proofs.Turns.{left, left-all, left-next, left-none}
 
 -- ---- the buffer: `at` bytes are written over o₀, and with the rest they make the target
 
@@ -52,10 +50,10 @@ module _ {o₀ : List ℕ} {at : ℕ} {rest target o : List ℕ} (p : Laid o₀ 
 -- ---- what is left to write, with i of n blocks of p done and v the last value of the chain
 
 abbrev pub encRest : List ℕ → List ℕ → ℕ → ℕ → List ℕ → List ℕ
-encRest k p n i v = flat (encRun k v (cut (n - i) (drop (i * 16) p)) .out)
+encRest k p n i v = flat (encRun k v (left p n i) .out)
 
 abbrev pub decRest : List ℕ → List ℕ → ℕ → ℕ → List ℕ → List ℕ
-decRest k p n i v = flat (decRun k v (cut (n - i) (drop (i * 16) p)) .out)
+decRest k p n i v = flat (decRun k v (left p n i) .out)
 
 enc-cons : (k v b c : List ℕ) (bs : List (List ℕ)) → c ≡ E k (xorl b v) → flat (encRun k v (b ∷ bs) .out) ≡ c ++ flat (encRun k c bs .out)
 unfolding encRun flat
@@ -73,39 +71,25 @@ dec-nil : (k v : List ℕ) → flat (decRun k v [] .out) ≡ []
 unfolding decRun flat
 dec-nil k v = refl
 
-cut-none : (l : List ℕ) → cut 0 l ≡ []
-unfolding cut
-cut-none l = refl
-
--- the next block, and those after it
-next : (p : List ℕ) (n i : ℕ) → i < n → cut (n - i) (drop (i * 16) p) ≡ take 16 (drop (i * 16) p) ∷ cut (n - (i + 1)) (drop ((i + 1) * 16) p)
-next p n i h =
-    let a : n - i ≡ suc (n - (i + 1)) = omega arith in
-    let b : (i + 1) * 16 ≡ i * 16 + 16 = omega arith in
-    rw (a, b, cut-suc, drop-drop)
-
-none : (p : List ℕ) (n i : ℕ) → n ≤ i → cut (n - i) (drop (i * 16) p) ≡ []
-none p n i h = let a : n - i ≡ 0 = omega arith in rw (a, cut-none)
-
 module _ (k p : List ℕ) (n i : ℕ) (v c : List ℕ) where
   pub enc-more : i < n → c ≡ E k (xorl (take 16 (drop (i * 16) p)) v) → encRest k p n i v ≡ c ++ encRest k p n (i + 1) c
-  enc-more h e = rw (next p n i h) (enc-cons k v (take 16 (drop (i * 16) p)) c _ e)
+  enc-more h e = rw (left-next p n i h) (enc-cons k v (take 16 (drop (i * 16) p)) c _ e)
 
   pub dec-more : (x : List ℕ) → i < n → c ≡ take 16 (drop (i * 16) p) → x ≡ xorl (D k c) v → decRest k p n i v ≡ x ++ decRest k p n (i + 1) c
-  dec-more x h ec e = rw (next p n i h, ← ec) (dec-cons k v c x _ e)
+  dec-more x h ec e = rw (left-next p n i h, ← ec) (dec-cons k v c x _ e)
 
 pub enc-none : (k p : List ℕ) (n i : ℕ) (v : List ℕ) → n ≤ i → encRest k p n i v ≡ []
-enc-none k p n i v h = rw (none p n i h) (enc-nil k v)
+enc-none k p n i v h = rw (left-none p n i h) (enc-nil k v)
 
 pub dec-none : (k p : List ℕ) (n i : ℕ) (v : List ℕ) → n ≤ i → decRest k p n i v ≡ []
-dec-none k p n i v h = rw (none p n i h) (dec-nil k v)
+dec-none k p n i v h = rw (left-none p n i h) (dec-nil k v)
 
 pub enc-all : (k x : List ℕ) (n : ℕ) (v : List ℕ) → n ≡ length x / 16 + 1 → encRest k (padData x) n 0 v ≡ hide k v x .bytes
 unfolding hide blocks
 enc-all k x n v e =
     let m : length (padData x) / 16 ≡ n = omega (arith, length-padData x) in
-    rw (m, sub-zero)
+    rw (m, left-all)
 
 pub dec-all : (k p : List ℕ) (n : ℕ) (v : List ℕ) → n ≡ length p / 16 → decRest k p n 0 v ≡ flat (decRun k v (blocks p) .out)
 unfolding blocks
-dec-all k p n v e = rw (e, sub-zero)
+dec-all k p n v e = rw (e, left-all)

@@ -1,6 +1,7 @@
 pub mod PadLaws
 pub mod Pasted
 pub mod Keyed
+pub mod Turns
 pub mod MacLaws
 pub mod CbcLaws
 pub mod CbcLoop

@@ -3,18 +3,18 @@
 use mathlib.Core.Path.{_≡_, refl, sym, ap, ap₂, _∙_}
 use mathlib.Core.List.{List, [], _∷_, _++_}
 use Prim.Native.Nat.{ℕ, zero, suc, _+_, _-_, _*_, _/_, _≤_, _<_}
-use native.Mathlib.Nat.{sub-zero}
 use native.Mathlib.Omega.{arith}
 use lib.ListN.{length, take, drop, length-drop}
 use lib.Seq.{drop-drop, take-append-le, drop-append-le}
 use Rattle.laws.specs.Bytes.{Bytes, xorl}
 use Rattle.laws.specs.Blocks.{Block, Blocks, cut, blocks}
-use Rattle.laws.proofs.BlockLists.{block-xorl, cut-suc, length-blocks, blocks-blocks}
+use Rattle.laws.proofs.BlockLists.{block-xorl, length-blocks, blocks-blocks}
 use Rattle.aes.specs.Cipher.{E}
 use Rattle.aes.proofs.Laws.{E-block}
 use Rattle.secure_cipher.specs.Pad.{padMac, padData, tail80}
 use Rattle.secure_cipher.specs.Mac.{keyFor, macRun, macOf}
 use Rattle.secure_cipher.specs.Parts.{chained}
+use Rattle.secure_cipher.proofs.Turns.{left, cut-none, left-all, left-next, left-none}
 use Rattle.secure_cipher.proofs.PadLaws.{padMac-by, length-padMac, bytes-padMac}
 
 -- ---- laws for the theory above
@@ -44,10 +44,6 @@ mac-steps k₁ k₂ v l = omega (arith, run-steps k₁ k₂ v (blocks (padMac l)
 
 -- ---- the blocks before the last, in a loop over a list s: i of n are done
 
-cut-none : (l : List ℕ) → cut 0 l ≡ []
-unfolding cut
-cut-none l = refl
-
 chained-none : (k v : List ℕ) → chained k v [] ≡ v
 unfolding chained
 chained-none k v = refl
@@ -56,27 +52,21 @@ chained-cons : (k v b : List ℕ) (bs : List (List ℕ)) → chained k v (b ∷ 
 unfolding chained
 chained-cons k v b bs = refl
 
-module _ (k s : List ℕ) (n i : ℕ) (v : List ℕ) where
-  -- what the blocks that are left make of v
-  abbrev pub chainedFrom : List ℕ
-  chainedFrom = chained k v (cut (n - i) (drop (i * 16) s))
+-- what the blocks that are left make of v
+abbrev pub chainedFrom : List ℕ → List ℕ → ℕ → ℕ → List ℕ → List ℕ
+chainedFrom k s n i v = chained k v (left s n i)
 
 pub chain-zero : (k s : List ℕ) (n : ℕ) (v : List ℕ) → n ≡ 0 → v ≡ chained k v (cut n s)
 chain-zero k s n v h = sym (rw (h, cut-none) (chained-none k v))
 
 pub chain-begin : (k s : List ℕ) (n : ℕ) (v : List ℕ) → chainedFrom k s n 0 v ≡ chained k v (cut n s)
-chain-begin k s n v = rw sub-zero
+chain-begin k s n v = ap (chained k v) (left-all s n)
 
 pub chain-step : (k s : List ℕ) (n i : ℕ) (v c : List ℕ) → i < n → c ≡ E k (xorl v (take 16 (drop (i * 16) s))) → chainedFrom k s n (i + 1) c ≡ chainedFrom k s n i v
-chain-step k s n i v c h e =
-    let a : n - i ≡ suc (n - (i + 1)) = omega arith in
-    let b : (i + 1) * 16 ≡ i * 16 + 16 = omega arith in
-    rw (a, b, e, cut-suc, drop-drop, chained-cons)
+chain-step k s n i v c h e = rw (left-next s n i h, e, chained-cons)
 
 pub chain-end : (k s : List ℕ) (n i : ℕ) (v : List ℕ) → i ≡ n → v ≡ chainedFrom k s n i v
-chain-end k s n i v h =
-    let a : n - i ≡ 0 = omega arith in
-    sym (rw (a, cut-none) (chained-none k v))
+chain-end k s n i v h = sym (ap (chained k v) (left-none s n i (omega arith)) ∙ chained-none k v)
 
 -- ---- the last block apart
 

@@ -91,10 +91,10 @@ fn decrypt_blocks(key: [u8; 16], iv: [u8; 16], ct: &[u8], out: &mut [u8]) -> usi
     let n = ct.len() / 16;
     let mut v = iv;
     for i in 0..n {
-        let c = block::block_at(ct, i * 16);
-        let x = block::xor(aes::decrypt_with(&w, &u, c), v);
+        let b = block::block_at(ct, i * 16);
+        let x = block::xor(aes::decrypt_with(&w, &u, b), v);
         block::put(out, i * 16, x);
-        v = c;
+        v = b;
     }
     n
 }

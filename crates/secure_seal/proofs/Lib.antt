@@ -1,0 +1,8 @@
+pub mod SealLaws
+pub mod SealCases
+pub mod Settled
+pub mod Worked
+mod Places
+mod Arrays
+mod DataWritten
+mod FrameWritten

@@ -2,25 +2,26 @@
 -- Assumes nothing.
 use Prim.Native.Nat.{ℕ, _+_}
 use mathlib.Core.Bool.{Bool, true, false, cond}
-use mathlib.Core.List.{List, [], _∷_, _++_}
+use mathlib.Core.List.{List, [], _∷_}
 use mathlib.Core.Option.{Option, none, some}
 use lib.Dec.{ltb}
 use lib.ListN.{length, take}
 use Rattle.laws.specs.Answer.{Answer, Answer.given, Answer.refused}
 use Rattle.laws.specs.Bytes.{compl}
 use Rattle.laws.specs.Over.{write}
-use Rattle.packet_head.specs.Header.{Control}
-use Rattle.packet_build.specs.Build.{Block, Block.scb, Parts, bodyBytes, bytesOf}
+use Rattle.packet_head.specs.declared.header.Address.{Address}
+use Rattle.packet_head.specs.declared.header.Sqn.{Sqn}
+use Rattle.packet_build.specs.Build.{Block.scb, Parts, bodyBytes, bytesOf}
 use Rattle.secure_keys.specs.declared.crypto.SessionKeys.{SessionKeys}
 use Rattle.secure_cipher.specs.Pad.{lengthAnswer}
-use Rattle.secure_cipher.specs.Mac.{Mac, macOf}
+use Rattle.secure_cipher.specs.Mac.{macOf}
 use Rattle.secure_cipher.specs.Cbc.{Hidden, hide, hiddenLen}
 use Rattle.secure_session.specs.Session.{isSecure, sendFrom, sent}
 use Rattle.secure_session.specs.declared.session.State.{State}
 use Rattle.secure_session.specs.declared.session.Session.{Session}
-use Rattle.secure_seal.specs.declared.seal.Direction.{Direction}
-use Rattle.secure_seal.specs.declared.seal.Direction.the-variants.{AcuToPd, PdToAcu}
-use Rattle.secure_seal.specs.declared.seal.Sealed.{Sealed}
+use Rattle.secure_seal.specs.declared.frame.Direction.{Direction}
+use Rattle.secure_seal.specs.declared.frame.Direction.the-variants.{AcuToPd, PdToAcu}
+use Rattle.secure_seal.specs.declared.frame.Sealed.{Sealed}
 
 -- 15 or 17 from the controller, 16 or 18 from the reader
 unfoldable pub typeFor : Direction → Bool → ℕ
@@ -49,6 +50,9 @@ pub record Asked : Type 0 where
   pub encrypt : Bool
   pub code : ℕ
   pub payload : List ℕ
+
+abbrev pub askedOf : Address → Sqn → Direction → Bool → ℕ → List ℕ → Asked
+askedOf a n d e c x = record { addr = a .0; sqn = n .0; direction = d; encrypt = e; code = c; payload = x }
 
 -- 53, address, LEN, CTRL, block, code: eight bytes; MAC and CRC: six
 abbrev pub totalOf : Asked → ℕ

@@ -1,5 +1,6 @@
 // Sealing a frame.
-mod seal;
+mod frame;
 
-pub use seal::Direction;
-pub use seal::Sealed;
+pub use frame::Direction;
+pub use frame::Sealed;
+pub use frame::seal;

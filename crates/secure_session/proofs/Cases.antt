@@ -71,7 +71,8 @@ module _ (s : Session) (u b c : List ℕ) {i : Bool} (hi : i ≡ isAt Controller
   unfolding receiveCcryptOf
   ccrypt-no t = rw (← hi, t)
 
-  module _ {k : SessionKeys} {w : List ℕ} {e : Bool} (t : i ≡ true) (hk : k ≡ derive (s .scbk) (s .«rnd_a»)) (hw : w ≡ clientOf (k .«s_enc») (s .«rnd_a») b) (he : e ≡ eql w c) where
+  module _ {k : SessionKeys} {w : List ℕ} {e : Bool} (t : i ≡ true) (hk : k ≡ derive (s .scbk) (s .«rnd_a»))
+      (hw : w ≡ clientOf (k .«s_enc») (s .«rnd_a») b) (he : e ≡ eql w c) where
     pub ccrypt-done : {n : Session} → e ≡ true → n ≡ moved s Cryptogrammed (s .«rnd_a») b u k → done tt n ≡ receiveCcryptOf s u b c
     unfolding receiveCcryptOf
     ccrypt-done y h = rw (← hi, t, ← hk, ← hw, ← he, y, h)
@@ -103,7 +104,8 @@ module _ (s : Session) (c : List ℕ) {i : Bool} (hi : i ≡ isAt Controller Cry
   unfolding confirmOf
   confirm-no t = rw (← hi, t)
 
-  module _ {v m : List ℕ} {e : Bool} (t : i ≡ true) (hv : v ≡ serverFor s) (hm : m ≡ firstOf (s .keys .«s_mac1») (s .keys .«s_mac2») v) (he : e ≡ eql m c) where
+  module _ {v m : List ℕ} {e : Bool} (t : i ≡ true) (hv : v ≡ serverFor s)
+      (hm : m ≡ firstOf (s .keys .«s_mac1») (s .keys .«s_mac2») v) (he : e ≡ eql m c) where
     pub confirm-done : {n : Session} → e ≡ true → n ≡ secured s m → done tt n ≡ confirmOf s c
     unfolding confirmOf
     confirm-done y h = rw (← hi, t, ← hv, ← hm, ← he, y, h)
@@ -128,7 +130,8 @@ module _ (s : Session) (c : List ℕ) {i : Bool} (hi : i ≡ isAt Reader Challen
   scrypt-no t = rw (← hi, t)
 
   module _ {v : List ℕ} {e : Bool} (t : i ≡ true) (hv : v ≡ serverFor s) (he : e ≡ eql v c) where
-    pub scrypt-done : {m : List ℕ} {n : Session} → e ≡ true → m ≡ firstOf (s .keys .«s_mac1») (s .keys .«s_mac2») v → n ≡ secured s m → done m n ≡ receiveScryptOf s c
+    pub scrypt-done : {m : List ℕ} {n : Session} → e ≡ true → m ≡ firstOf (s .keys .«s_mac1») (s .keys .«s_mac2») v
+        → n ≡ secured s m → done m n ≡ receiveScryptOf s c
     unfolding receiveScryptOf
     scrypt-done y hm h = rw (← hi, t, ← hv, ← he, y, ← hm, h)
 

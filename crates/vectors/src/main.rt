@@ -174,9 +174,37 @@ fn ecb() {
     tell(b"SP 800-38A F.1.2: ", back, 4);
 }
 
+// How many of the four blocks are those wanted.
+fn blocks(got: &[u8], want: &[u8]) -> u64
+    requires { ⌜ (length (now got) ≡ 80) × (length (now want) ≡ 64) ⌝ }
+    ensures { λ r. ⌜ r ≤ 4 ⌝ }
+{
+    hit(&got[0..16], &want[0..16])
+        + hit(&got[16..32], &want[16..32])
+        + hit(&got[32..48], &want[32..48])
+        + hit(&got[48..64], &want[48..64])
+}
+
+// The document's four blocks fill their length, so the padding adds a fifth, which opening takes off again.
+fn cbc() {
+    let key = b"\x2b\x7e\x15\x16\x28\xae\xd2\xa6\xab\xf7\x15\x88\x09\xcf\x4f\x3c";
+    let iv = b"\x00\x01\x02\x03\x04\x05\x06\x07\x08\x09\x0a\x0b\x0c\x0d\x0e\x0f";
+    let plain =
+        b"\x6b\xc1\xbe\xe2\x2e\x40\x9f\x96\xe9\x3d\x7e\x11\x73\x93\x17\x2a\xae\x2d\x8a\x57\x1e\x03\xac\x9c\x9e\xb7\x6f\xac\x45\xaf\x8e\x51\x30\xc8\x1c\x46\xa3\x5c\xe4\x11\xe5\xfb\xc1\x19\x1a\x0a\x52\xef\xf6\x9f\x24\x45\xdf\x4f\x9b\x17\xad\x2b\x41\x7b\xe6\x6c\x37\x10";
+    let cipher =
+        b"\x76\x49\xab\xac\x81\x19\xb2\x46\xce\xe9\x8e\x9b\x12\xe9\x19\x7d\x50\x86\xcb\x9b\x50\x72\x19\xee\x95\xdb\x11\x3a\x91\x76\x78\xb2\x73\xbe\xd6\xb8\xe3\xc1\x74\x3b\x71\x16\xe6\x9e\x22\x22\x95\x16\x3f\xf1\xca\xa1\x68\x1f\xac\x09\x12\x0e\xca\x30\x75\x86\xe1\xa7";
+    let mut out = [0u8; 80];
+    secure_cipher::encrypt_data(*key, *iv, plain, &mut out);
+    tell(b"SP 800-38A F.2.1: ", blocks(&out, cipher), 4);
+    let mut back = [0u8; 80];
+    secure_cipher::decrypt_data(*key, *iv, &out, &mut back);
+    tell(b"SP 800-38A F.2.2: ", blocks(&back, plain), 4);
+}
+
 fn main() {
     key_expansion();
     cipher_example();
     example_vectors();
     ecb();
+    cbc();
 }

@@ -53,8 +53,8 @@ returns-4 c =
     let f = d .before .before in
     let a = f .before .before .before .before .before .args in
     let e : Deciphered _ _ _ _ _ = d .decrypt-blocks .ensures in
-    decrypt-good (a .s-enc) (a .iv) (a .ct .now) (a .out .now) _ _ (f .before .before .if1 .left) (f .before .if2 .left) (f .if3 .left) (e .here) (e .size) (e .counted) _
-    (ap lengthAnswer (sym (c .before .len .given .1)) ∙ u .unpad-data .ensures ∙ ap unpad (read-text e))
+    cc (decrypt-good (a .s-enc) (a .iv) (a .ct .now) (a .out .now) _ _ (f .before .before .if1 .left) (f .before .if2 .left) (f .if3 .left) (e .here) (e .size) (e .counted) _
+    (ap lengthAnswer (sym (c .before .len .given .1)) ∙ u .unpad-data .ensures ∙ ap unpad (read-text e)))
 
 returns-5 : tie.Need-returns-5
 returns-5 c =

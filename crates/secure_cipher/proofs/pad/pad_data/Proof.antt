@@ -13,17 +13,16 @@ returns : tie.Need-returns
 returns c =
     let a = c .before .before .before .args in
     let x = a .«data» .now in
-    (fits-short (padData x) (a .out .now) (length x / 16 * 16 + 16) (omega (arith, length-padData x)) (c .if1 .taken), refl)
+    (fits-short (padData x) (a .out .now) _ (omega (arith, length-padData x)) (c .if1 .taken), refl)
 
 returns-2 : tie.Need-returns-2
 returns-2 c =
     let s = c .before .before .before .before .before .before in
     let a = s .before .before .before .before .before .args in
     let x = a .«data» .now in
-    let need = length x / 16 * 16 + 16 in
-    let e : need ≡ length (padData x) = omega (arith, length-padData x) in (
-      fits-good (padData x) (a .out .now) need e (s .before .before .if1 .left),
-      pad-made x (a .out .now) _ _ (length x) need refl e (s .before .before .if1 .left) (s .copy .ensures) (c .before .before .zero .ensures),
+    let p = length-padData x in (
+      fits-good (padData x) (a .out .now) _ (omega arith) (s .before .before .if1 .left),
+      pad-made x (a .out .now) _ _ (length x) _ refl (omega arith) (s .before .before .if1 .left) (s .copy .ensures) (c .before .before .zero .ensures),
     )
 
 pub pad-data-spec : {M : Type 1} → statement M

@@ -11,7 +11,8 @@ returns c =
     let m = e .before .before .before in
     let i = m .before .before in
     let a = i .before .before .args in
-    confirm-done (a .self) (a .t2) (i .before .is-at .ensures) (i .if1 .taken) (m .before .server-for .ensures) (m .first-for .ensures) (e .same .ensures) (c .before .if2 .taken) (c .secured .ensures)
+    confirm-done (a .self) (a .t2) (i .before .is-at .ensures) (i .if1 .taken) (m .before .server-for .ensures) (m .first-for .ensures)
+    (e .same .ensures) (c .before .if2 .taken) (c .secured .ensures)
 
 returns-2 : tie.Need-returns-2
 returns-2 c =
@@ -19,7 +20,8 @@ returns-2 c =
     let m = e .before .before .before in
     let i = m .before .before in
     let a = i .before .before .args in
-    confirm-wrong (a .self) (a .t2) (i .before .is-at .ensures) (i .if1 .taken) (m .before .server-for .ensures) (m .first-for .ensures) (e .same .ensures) (c .before .if2 .left) (c .reset .ensures)
+    confirm-wrong (a .self) (a .t2) (i .before .is-at .ensures) (i .if1 .taken) (m .before .server-for .ensures) (m .first-for .ensures)
+    (e .same .ensures) (c .before .if2 .left) (c .reset .ensures)
 
 returns-3 : tie.Need-returns-3
 returns-3 c = confirm-no (c .before .before .args .self) (c .before .before .args .t2) (c .before .is-at .ensures) (c .if1 .left)

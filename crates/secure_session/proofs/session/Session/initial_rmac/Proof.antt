@@ -8,7 +8,8 @@ use Rattle.secure_session.proofs.session.Session.initial_rmac.Statement
 returns : tie.Need-returns
 returns c =
     let i = c .before .before in
-    beside (rmac-done (i .before .before .args .self) (i .before .is-at .ensures) (i .if1 .taken) (c .before .server-for .ensures) (c .first-for .ensures))
+    beside (rmac-done (i .before .before .args .self) (i .before .is-at .ensures) (i .if1 .taken) (c .before .server-for .ensures)
+    (c .first-for .ensures))
 
 returns-2 : tie.Need-returns-2
 returns-2 c = beside (rmac-no (c .before .before .args .self) (c .before .is-at .ensures) (c .if1 .left))

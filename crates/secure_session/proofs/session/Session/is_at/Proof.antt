@@ -14,7 +14,8 @@ returns-2 : tie.Need-returns-2
 returns-2 c =
     let f = c .before .before .before in
     let a = f .before .before .args in
-    at-state (a .end) (a .state) (a .self) (f .before .end-number .ensures) (f .end-number2 .ensures) (c .before .before .if1 .left) (c .before .state-number .ensures) (c .state-number2 .ensures)
+    at-state (a .end) (a .state) (a .self) (f .before .end-number .ensures) (f .end-number2 .ensures) (c .before .before .if1 .left)
+    (c .before .state-number .ensures) (c .state-number2 .ensures)
 
 pub is-at-spec : {M : Type 1} → statement M
 is-at-spec =

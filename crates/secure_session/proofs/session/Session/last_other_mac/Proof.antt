@@ -7,7 +7,8 @@ use Rattle.secure_session.proofs.session.Session.last_other_mac.Tie as 
 use Rattle.secure_session.proofs.session.Session.last_other_mac.Statement.{statement}
 
 returns : tie.Need-returns
-returns c = beside (last-done (c .before .before .before .args .self) (c .before .before .is-secure .ensures) (c .before .if1 .taken) (c .send-from .ensures))
+returns c =
+    beside (last-done (c .before .before .before .args .self) (c .before .before .is-secure .ensures) (c .before .if1 .taken) (c .send-from .ensures))
 
 returns-2 : tie.Need-returns-2
 returns-2 c = beside (last-no (c .before .before .args .self) (c .before .is-secure .ensures) (c .if1 .left))

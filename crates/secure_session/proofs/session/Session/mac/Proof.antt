@@ -10,7 +10,8 @@ returns : tie.Need-returns
 returns c =
     let i = c .before .before .before in
     let a = i .before .before .before .args in
-    beside-step (mac-done (a .self) (i .before .is-secure .ensures) (i .if1 .taken) (a .bytes .now) (c .before .before .send-from .ensures) (c .before .full-mac .ensures) (c .sent .ensures))
+    beside-step (mac-done (a .self) (i .before .is-secure .ensures) (i .if1 .taken) (a .bytes .now) (c .before .before .send-from .ensures)
+    (c .before .full-mac .ensures) (c .sent .ensures))
 
 returns-2 : tie.Need-returns-2
 returns-2 c =

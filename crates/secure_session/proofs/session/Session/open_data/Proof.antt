@@ -10,7 +10,8 @@ returns c =
     let v = c .before .before .before .before .before in
     let i = v .before .before .before in
     let a = i .before .before .before .before .args in
-    open-done (a .self) (i .before .is-secure .ensures) (i .if1 .taken) (a .ct .now) (a .out .now) (c .before .before .before .before .complement-icv .ensures) (v .recv-from .ensures) (c .before .before .decrypt-data .ensures)
+    open-done (a .self) (i .before .is-secure .ensures) (i .if1 .taken) (a .ct .now) (a .out .now)
+    (c .before .before .before .before .complement-icv .ensures) (v .recv-from .ensures) (c .before .before .decrypt-data .ensures)
 
 returns-2 : tie.Need-returns-2
 returns-2 c =

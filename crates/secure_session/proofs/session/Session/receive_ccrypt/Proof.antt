@@ -12,7 +12,8 @@ returns c =
     let k = w .before .before in
     let i = k .before .before .before in
     let a = i .before .before .args in
-    ccrypt-done (a .self) (a .cuid) (a .rnd-b) (a .t4) (i .before .is-at .ensures) (i .if1 .taken) (k .derive .ensures) (w .client-cryptogram .ensures) (e .same .ensures) (c .before .if2 .taken) (c .moved .ensures)
+    ccrypt-done (a .self) (a .cuid) (a .rnd-b) (a .t4) (i .before .is-at .ensures) (i .if1 .taken) (k .derive .ensures)
+    (w .client-cryptogram .ensures) (e .same .ensures) (c .before .if2 .taken) (c .moved .ensures)
 
 returns-2 : tie.Need-returns-2
 returns-2 c =
@@ -21,7 +22,8 @@ returns-2 c =
     let k = w .before .before in
     let i = k .before .before .before in
     let a = i .before .before .args in
-    ccrypt-wrong (a .self) (a .cuid) (a .rnd-b) (a .t4) (i .before .is-at .ensures) (i .if1 .taken) (k .derive .ensures) (w .client-cryptogram .ensures) (e .same .ensures) (c .before .if2 .left) (c .reset .ensures)
+    ccrypt-wrong (a .self) (a .cuid) (a .rnd-b) (a .t4) (i .before .is-at .ensures) (i .if1 .taken) (k .derive .ensures)
+    (w .client-cryptogram .ensures) (e .same .ensures) (c .before .if2 .left) (c .reset .ensures)
 
 returns-3 : tie.Need-returns-3
 returns-3 c =

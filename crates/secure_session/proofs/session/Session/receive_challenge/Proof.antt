@@ -10,7 +10,8 @@ returns c =
     let k = c .before .before .before in
     let i = k .before .before .before in
     let a = i .before .before .args in
-    beside-step (asked-done (a .self) (a .rnd-a) (a .rnd-b) (i .before .is-at .ensures) (i .if1 .taken) (k .derive .ensures) (c .before .client-cryptogram .ensures) (c .moved .ensures))
+    beside-step (asked-done (a .self) (a .rnd-a) (a .rnd-b) (i .before .is-at .ensures) (i .if1 .taken) (k .derive .ensures)
+    (c .before .client-cryptogram .ensures) (c .moved .ensures))
 
 returns-2 : tie.Need-returns-2
 returns-2 c =

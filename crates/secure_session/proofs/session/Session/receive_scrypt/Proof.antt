@@ -11,7 +11,8 @@ returns c =
     let v = e .before .before .before in
     let i = v .before in
     let a = i .before .before .args in
-    beside-step (scrypt-done (a .self) (a .t2) (i .before .is-at .ensures) (i .if1 .taken) (v .server-for .ensures) (e .same .ensures) (c .before .before .if2 .taken) (c .before .first-for .ensures) (c .secured .ensures))
+    beside-step (scrypt-done (a .self) (a .t2) (i .before .is-at .ensures) (i .if1 .taken) (v .server-for .ensures) (e .same .ensures)
+    (c .before .before .if2 .taken) (c .before .first-for .ensures) (c .secured .ensures))
 
 returns-2 : tie.Need-returns-2
 returns-2 c =
@@ -19,7 +20,8 @@ returns-2 c =
     let v = e .before .before .before in
     let i = v .before in
     let a = i .before .before .args in
-    beside-step (scrypt-wrong (a .self) (a .t2) (i .before .is-at .ensures) (i .if1 .taken) (v .server-for .ensures) (e .same .ensures) (c .before .if2 .left) (c .reset .ensures))
+    beside-step (scrypt-wrong (a .self) (a .t2) (i .before .is-at .ensures) (i .if1 .taken) (v .server-for .ensures) (e .same .ensures)
+    (c .before .if2 .left) (c .reset .ensures))
 
 returns-3 : tie.Need-returns-3
 returns-3 c = beside-step (scrypt-no (c .before .before .args .self) (c .before .before .args .t2) (c .before .is-at .ensures) (c .if1 .left))

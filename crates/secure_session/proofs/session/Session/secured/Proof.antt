@@ -6,7 +6,8 @@ use Rattle.secure_session.proofs.session.Session.secured.Tie as tie
 use Rattle.secure_session.proofs.session.Session.secured.Statement.{statement}
 
 returns : tie.Need-returns
-returns c = chained (c .before .before .before .before .before .args .self) (c .before .before .before .before .before .args .first) (c .moved .ensures)
+returns c =
+    chained (c .before .before .before .before .before .args .self) (c .before .before .before .before .before .args .first) (c .moved .ensures)
 
 pub secured-spec : {M : Type 1} → statement M
 secured-spec = tie.close (tie.spec (λ c κs. search needs) returns)

@@ -17,7 +17,8 @@ returns c =
     let m = e .before .before .before in
     let i = m .before .before in
     let a = i .before .before .before .args in
-    verify-done (a .self) (i .before .is-secure .ensures) (i .if1 .taken) (a .bytes .now) (a .t3) (m .before .recv-from .ensures) (m .full-mac .ensures) (e .same .ensures) (c .before .if2 .taken) (c .received .ensures)
+    verify-done (a .self) (i .before .is-secure .ensures) (i .if1 .taken) (a .bytes .now) (a .t3) (m .before .recv-from .ensures)
+    (m .full-mac .ensures) (e .same .ensures) (c .before .if2 .taken) (c .received .ensures)
 
 returns-2 : tie.Need-returns-2
 returns-2 c =
@@ -25,7 +26,8 @@ returns-2 c =
     let m = e .before .before .before in
     let i = m .before .before in
     let a = i .before .before .before .args in
-    verify-wrong (a .self) (i .before .is-secure .ensures) (i .if1 .taken) (a .bytes .now) (a .t3) (m .before .recv-from .ensures) (m .full-mac .ensures) (e .same .ensures) (c .if2 .left)
+    verify-wrong (a .self) (i .before .is-secure .ensures) (i .if1 .taken) (a .bytes .now) (a .t3) (m .before .recv-from .ensures)
+    (m .full-mac .ensures) (e .same .ensures) (c .if2 .left)
 
 returns-3 : tie.Need-returns-3
 returns-3 c =

@@ -2,8 +2,8 @@
 -- Assumes nothing.
 use Rattle.secure_seal.specs.Seal.{typeFor}
 use borrow.Author.Needs.{needs}
-use Rattle.secure_seal.proofs.seal.Direction.scs_for.Statement.{statement}
-use Rattle.secure_seal.proofs.seal.Direction.scs_for.Tie as tie
+use Rattle.secure_seal.proofs.frame.Direction.scs_for.Statement.{statement}
+use Rattle.secure_seal.proofs.frame.Direction.scs_for.Tie as tie
 
 returns : tie.Need-returns
 unfolding typeFor

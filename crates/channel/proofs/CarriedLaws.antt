@@ -1,0 +1,52 @@
+-- A message that is framed within limits and buffers is read as it was sent.
+-- Assumes nothing.
+use mathlib.Core.Bool.{Bool, true, false}
+use mathlib.Core.List.{List, [], append-nil}
+use mathlib.Core.Path.{_≡_, refl, sym, ap, _∙_}
+use Prim.Native.Nat.{ℕ, _≤_}
+use native.Mathlib.Omega.{arith}
+use borrow.Author.Tests.{le-ltb}
+use lib.ListN.{length, take}
+use Rattle.laws.specs.Answer.{Answer.given, refuseIf}
+use Rattle.laws.specs.Over.{write}
+use Rattle.laws.proofs.Overwrite.{take-write}
+use Rattle.packet_head.specs.Block.{hasMac, scsOf}
+use Rattle.packet_head.specs.Trailer.{trailerLen}
+use Rattle.packet_parse.specs.Frame.{parseOf}
+use Rattle.packet_build.specs.Build.{Parts, totalN, testOf, bytesOf, buildOf}
+use Rattle.packet_build.proofs.Frames.{build-given}
+use Rattle.packet.proofs.Built.{placesOf}
+use Rattle.packet.proofs.ReadBack.{built-reads-back}
+use Rattle.channel.specs.Carried.{Wire, wireParts, onLine, dataIn, carried, WireFits}
+
+tail-most : (t : Bool) → trailerLen t ≤ 2
+tail-most true = omega arith
+tail-most false = omega arith
+
+module _ (ty : ℕ) (w : Wire) (x : List ℕ) (known : scsOf ty ≡ given ty) (bare : hasMac ty ≡ false) (small : length x ≤ 32) (h : WireFits w (length x)) where
+  abbrev parts : Parts
+  parts = wireParts ty w x
+
+  abbrev total : ℕ
+  total = totalN (w .useCrc) true 0 (length (w .block)) (length x)
+
+  passed : testOf (w .sqn, w .useCrc, true) true (hasMac ty) 0 (length (w .block)) (length x) (length (w .out)) ≡ given total
+  unfolding testOf refuseIf
+  passed =
+      let most : total ≤ 65535 = omega (arith, tail-most (w .useCrc), h .block) in
+      rw (le-ltb 3 (w .sqn) (h .sqn), bare, le-ltb 253 (length (w .block)) (h .block), le-ltb 65535 total most, le-ltb (length (w .out)) total (h .room))
+
+  built : buildOf parts (length (w .out)) ≡ given (bytesOf parts total)
+  built = build-given parts (length (w .out)) total passed
+
+  sent : take (length (bytesOf parts total)) (write (w .out) 0 (bytesOf parts total)) ≡ bytesOf parts total
+  sent = take-write (w .out) (length (bytesOf parts total)) (bytesOf parts total) refl
+
+  reads : parseOf (bytesOf parts total) ≡ given (placesOf parts (length (bytesOf parts total)))
+  reads = ap parseOf (sym (append-nil (bytesOf parts total))) ∙ built-reads-back parts (length (w .out)) (bytesOf parts total) [] known built .0
+
+  pub carried-eq : carried ty w x ≡ x
+  unfolding carried onLine dataIn
+  carried-eq =
+      rw (built, sent, reads)
+      (ap (λ (p : Parts). p .«data») (built-reads-back parts (length (w .out)) (bytesOf parts total) [] known built .1))

@@ -1,0 +1,89 @@
+-- Demand 3, proved: what shows of an event is settled by what two conversations agree on, so it is alike in both.
+-- Assumes nothing.
+use mathlib.Core.Bool.{Bool, true, false}
+use mathlib.Core.List.{List, [], _∷_, _++_}
+use mathlib.Core.Path.{_≡_, refl, sym, ap, ap₂, _∙_}
+use Prim.Native.Nat.{ℕ, _+_, _*_, _/_, _%_}
+use lib.ListN.{length}
+use Rattle.secure_cipher.proofs.PadLaws.{length-padData}
+use Rattle.secure_session.specs.declared.session.End.{End}
+use Rattle.secure_session.specs.declared.session.End.the-variants.{Controller, Reader}
+use Rattle.secure_seal.specs.Seal.{typeFor, dataLen, totalOf}
+use Rattle.secure_seal.proofs.SealLaws.{stepsFor, headWith}
+use Rattle.channel.specs.Talk.{Send, directionOf, askedOf, Event}
+use Rattle.channel.specs.Demand.{Conversation, handOf, eventsOf, Proper, Agree, Each, Arrived, Alike, AllAlike, Demand3}
+use Rattle.channel.proofs.Shaken.{shaken, shaken-back, succeeded}
+use Rattle.channel.proofs.TalkLaws.{openFor, Heard, ReadyFrom, any-able, talk-heard}
+
+-- ---- one conversation
+
+arrived : (s : Send) (e : Event) → Heard s e → Arrived s e
+arrived s e h = record { sealed = h .sealed; size = h .size; opened = h .opened }
+
+each-arrived : (ss : List Send) (es : List Event) → Each Heard ss es → Each Arrived ss es
+each-arrived [] [] h = tt
+each-arrived [] (e ∷ es) h = h
+each-arrived (s ∷ ss) [] h = h
+each-arrived (s ∷ ss) (e ∷ es) h = (arrived s e (h .0), each-arrived ss es (h .1))
+
+module _ (t : Conversation) (p : Proper t) where
+  ready-from : (w : End) → ReadyFrom w (handOf t .controller) (handOf t .reader)
+  unfolding ReadyFrom
+  ready-from Controller = shaken (t .wires) (t .controller) (t .reader) (t .rndA) (t .rndB) (p .wires) (p .apart) (p .rndA) (p .rndB)
+  ready-from Reader = shaken-back (t .wires) (t .controller) (t .reader) (t .rndA) (t .rndB) (p .wires) (p .apart) (p .rndA) (p .rndB)
+
+  heard : Each Heard (t .sends) (eventsOf t)
+  heard = talk-heard (handOf t .controller) (handOf t .reader) (t .sends) (any-able _ _ (t .sends) ready-from) (p .sends)
+
+-- ---- two
+
+data-same : (e : Bool) (x y : List ℕ) → length x ≡ length y → dataLen e x ≡ dataLen e y
+unfolding dataLen
+data-same false x y h = h
+data-same true x y h = length-padData x ∙ ap (λ (n : ℕ). (n / 16 + 1) * 16) h ∙ sym (length-padData y)
+
+module _ (s t : Send) (h : Agree s t) where
+  total-same : totalOf (askedOf s) ≡ totalOf (askedOf t)
+  total-same = ap (λ (n : ℕ). 14 + n) (data-same (s .encrypt) (s .payload) (t .payload) (h .size) ∙ ap (λ (e : Bool). dataLen e (t .payload)) (h .encrypt))
+
+  head-same : headWith (askedOf s) ≡ headWith (askedOf t)
+  head-same = λ i. 0x53 ∷ h .addr i ∷ total-same i % 256 ∷ total-same i / 256 ∷ (h .sqn i + 4 + 8) ∷ 2 ∷ typeFor (directionOf (h .who i)) (h .encrypt i) ∷ h .code i ∷ []
+
+  open-by : (e : Bool) → s .encrypt ≡ e → openFor e (askedOf s) ≡ openFor e (askedOf t)
+  unfolding openFor
+  open-by true p = head-same
+  open-by false p = ap₂ (λ (x y : List ℕ). x ++ y) head-same (h .plain p)
+
+  open-same : openFor (s .encrypt) (askedOf s) ≡ openFor (t .encrypt) (askedOf t)
+  open-same = open-by (s .encrypt) refl ∙ ap (λ (e : Bool). openFor e (askedOf t)) (h .encrypt)
+
+  calls-same : stepsFor (s .encrypt) (length (s .payload)) ≡ stepsFor (t .encrypt) (length (t .payload))
+  calls-same = ap₂ stepsFor (h .encrypt) (h .size)
+
+  alike : (d e : Event) → Heard s d → Heard t e → Alike s t d e
+  alike d e p q = record {
+    size = p .size ∙ total-same ∙ sym (q .size);
+    bytes = p .bytes ∙ open-same ∙ sym (q .bytes);
+    sealCalls = p .sealCalls ∙ calls-same ∙ sym (q .sealCalls);
+    openCalls = p .openCalls ∙ calls-same ∙ sym (q .openCalls);
+  }
+
+all-alike : (ss ts : List Send) (ds es : List Event) → Each Agree ss ts → Each Heard ss ds → Each Heard ts es → AllAlike ss ts ds es
+all-alike [] [] [] [] h p q = tt
+all-alike [] [] [] (e ∷ es) h p q = q
+all-alike [] [] (d ∷ ds) es h p q = p
+all-alike [] (t ∷ ts) ds es h p q = h
+all-alike (s ∷ ss) [] ds es h p q = h
+all-alike (s ∷ ss) (t ∷ ts) [] es h p q = p
+all-alike (s ∷ ss) (t ∷ ts) (d ∷ ds) [] h p q = q
+all-alike (s ∷ ss) (t ∷ ts) (d ∷ ds) (e ∷ es) h p q = (alike s t (h .0) d e (p .0) (q .0), all-alike ss ts ds es (h .1) (p .1) (q .1))
+
+-- ---- the theorem
+pub demand3 : (t u : Conversation) → Proper t → Proper u → Each Agree (t .sends) (u .sends) → Demand3 t u
+demand3 t u p q h = record {
+  shook₁ = succeeded (t .wires) (t .controller) (t .reader) (t .rndA) (t .rndB) (p .wires) (p .apart) (p .rndA) (p .rndB);
+  shook₂ = succeeded (u .wires) (u .controller) (u .reader) (u .rndA) (u .rndB) (q .wires) (q .apart) (q .rndA) (q .rndB);
+  arrived₁ = each-arrived (t .sends) (eventsOf t) (heard t p);
+  arrived₂ = each-arrived (u .sends) (eventsOf u) (heard u q);
+  alike = all-alike (t .sends) (u .sends) (eventsOf t) (eventsOf u) h (heard t p) (heard u q);
+}

@@ -1,0 +1,8 @@
+mod CarriedLaws
+mod Shaken
+mod Delivered
+mod Ends
+mod TalkLaws
+pub mod Demand3
+pub mod Limits
+pub mod Sample

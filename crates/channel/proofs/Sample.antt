@@ -1,0 +1,204 @@
+-- The premises of demand 3 can be met: two conversations that differ in keys, random numbers and encrypted contents. Two frames from
+-- each end, one of them encrypted, and twice the same end twice in a row. The second pair of ends is not fresh.
+-- Assumes nothing.
+use mathlib.Core.Bool.{true, false, false≢true}
+use mathlib.Core.List.{List, [], _∷_}
+use mathlib.Core.Path.{_≡_, refl, sym, ap, _∙_}
+use Prim.Native.Nat.{ℕ, _≤_, _<_}
+use native.Mathlib.Omega.{arith}
+use lib.ListN.{replicate, getD, length-replicate}
+use Rattle.laws.specs.Bytes.{zeros}
+use Rattle.laws.proofs.ByteLists.{bytes-replicate}
+use Rattle.secure_cipher.proofs.PadLaws.{length-padData}
+use Rattle.secure_session.specs.Session.{fresh}
+use Rattle.secure_session.specs.declared.session.End.{End}
+use Rattle.secure_session.specs.declared.session.End.the-variants.{Controller, Reader}
+use Rattle.secure_session.specs.declared.session.Session.{Session}
+use Rattle.secure_session.specs.declared.session.State.the-variants.{Disconnected}
+use Rattle.secure_seal.specs.Seal.{dataLen}
+use Rattle.channel.specs.Carried.{Wire, WireFits}
+use Rattle.channel.specs.Handshake.{Wires, WiresFit, Random}
+use Rattle.channel.specs.Talk.{Send}
+use Rattle.channel.specs.Demand.{Conversation, Fits, AllFit, Proper, Agree, Each, Demand3}
+use Rattle.channel.proofs.Demand3.{demand3}
+
+-- ---- the handshake's frames
+wire : ℕ → Wire
+wire code = record { addr = 5; sqn = 0; useCrc = true; block = 1 ∷ []; code = code; out = zeros 64 }
+
+wire-fits : (code n : ℕ) → n ≤ 32 → WireFits (wire code) n
+unfolding wire
+wire-fits code n h = record { sqn = omega arith; block = omega arith; room = omega arith }
+
+wires : Wires
+wires = record { chlng = wire 0x76; ccrypt = wire 0x76; scrypt = wire 0x77; rmac = wire 0x78 }
+
+wires-fit : WiresFit wires
+unfolding wires
+wires-fit = record {
+  chlng = wire-fits 0x76 8 (omega arith);
+  ccrypt = wire-fits 0x76 32 (omega arith);
+  scrypt = wire-fits 0x77 16 (omega arith);
+  rmac = wire-fits 0x78 16 (omega arith);
+}
+
+random : (x : ℕ) → x < 256 → Random (replicate 8 x)
+random x h = record { size = refl; bytes = bytes-replicate 8 x h }
+
+-- ---- the sealed frames: n bytes x
+plain : End → ℕ → ℕ → Send
+plain e n x = record { who = e; addr = 5; sqn = 1; code = 0x60; encrypt = false; payload = replicate n x; out = zeros 64; work = [] }
+
+hidden : End → ℕ → ℕ → Send
+hidden e n x = record { who = e; addr = 0x85; sqn = 2; code = 0x53; encrypt = true; payload = replicate n x; out = zeros 64; work = zeros 32 }
+
+plain-fits : (e : End) (n x : ℕ) → n ≤ 16 → x < 256 → Fits (plain e n x)
+unfolding plain dataLen
+plain-fits e n x h hx =
+    let l = length-replicate {A = ℕ} n x in
+    record {
+      limits = record { addr = omega arith; sqn = omega arith; code = omega arith; payload = bytes-replicate n x hx; total = omega arith };
+      room = omega arith;
+      work = λ p. absurd (false≢true p);
+    }
+
+hidden-fits : (e : End) (n x : ℕ) → n ≤ 16 → x < 256 → Fits (hidden e n x)
+unfolding hidden dataLen
+hidden-fits e n x h hx =
+    let l = length-replicate {A = ℕ} n x in
+    let m = length-padData (replicate n x) in
+    record {
+      limits = record { addr = omega arith; sqn = omega arith; code = omega arith; payload = bytes-replicate n x hx; total = omega arith };
+      room = omega arith;
+      work = λ p. omega arith;
+    }
+
+-- x is what stands in the encrypted payloads
+sends : ℕ → List Send
+sends x = hidden Controller 16 x ∷ plain Controller 0 9 ∷ plain Reader 8 9 ∷ hidden Reader 3 x ∷ []
+
+-- ---- the ends
+
+-- Disconnected, with the key k and y in every other byte
+used : End → List ℕ → ℕ → Session
+used e k y = record {
+  end = e;
+  state = Disconnected;
+  scbk = k;
+  «rnd_a» = replicate 8 y;
+  «rnd_b» = replicate 8 y;
+  cuid = replicate 8 y;
+  keys = record { «s_enc» = replicate 16 y; «s_mac1» = replicate 16 y; «s_mac2» = replicate 16 y };
+  chain = replicate 16 y;
+}
+
+pub one : Conversation
+one = record {
+  controller = fresh Controller (replicate 16 0x30) (zeros 8);
+  reader = fresh Reader (replicate 16 0x30) (replicate 8 1);
+  wires = wires;
+  rndA = replicate 8 2;
+  rndB = replicate 8 3;
+  sends = sends 7;
+}
+
+pub other : Conversation
+other = record {
+  controller = used Controller (replicate 16 0x31) 0xAA;
+  reader = used Reader (replicate 16 0x31) 0xBB;
+  wires = wires;
+  rndA = replicate 8 4;
+  rndB = replicate 8 5;
+  sends = sends 8;
+}
+
+-- ---- the premises
+
+sends-fit : (x : ℕ) → x < 256 → AllFit (sends x)
+unfolding sends
+sends-fit x h = (
+  hidden-fits Controller 16 x (omega arith) h,
+  (plain-fits Controller 0 9 (omega arith) (omega arith), (plain-fits Reader 8 9 (omega arith) (omega arith), (hidden-fits Reader 3 x (omega arith) h, tt))),
+)
+
+pub one-proper : Proper one
+unfolding one fresh
+one-proper = record {
+  apart = record {
+    controller = refl;
+    reader = refl;
+    controllerState = refl;
+    readerState = refl;
+    oneKey = refl;
+    key = record { size = refl; bytes = bytes-replicate 16 0x30 (omega arith) };
+    cuid = refl;
+  };
+  wires = wires-fit;
+  rndA = random 2 (omega arith);
+  rndB = random 3 (omega arith);
+  sends = sends-fit 7 (omega arith);
+}
+
+pub other-proper : Proper other
+unfolding other used
+other-proper = record {
+  apart = record {
+    controller = refl;
+    reader = refl;
+    controllerState = refl;
+    readerState = refl;
+    oneKey = refl;
+    key = record { size = refl; bytes = bytes-replicate 16 0x31 (omega arith) };
+    cuid = refl;
+  };
+  wires = wires-fit;
+  rndA = random 4 (omega arith);
+  rndB = random 5 (omega arith);
+  sends = sends-fit 8 (omega arith);
+}
+
+same : (s : Send) → Agree s s
+same s = record { who = refl; addr = refl; sqn = refl; code = refl; size = refl; encrypt = refl; plain = λ p. refl }
+
+hidden-agree : (e : End) (n x y : ℕ) → Agree (hidden e n x) (hidden e n y)
+unfolding hidden
+hidden-agree e n x y = record {
+  who = refl;
+  addr = refl;
+  sqn = refl;
+  code = refl;
+  size = length-replicate {A = ℕ} n x ∙ sym (length-replicate {A = ℕ} n y);
+  encrypt = refl;
+  plain = λ p. absurd (false≢true (sym p));
+}
+
+pub agree : Each Agree (one .sends) (other .sends)
+unfolding one other sends
+agree = (hidden-agree Controller 16 7 8, (same (plain Controller 0 9), (same (plain Reader 8 9), (hidden-agree Reader 3 7 8, tt))))
+
+-- ---- they differ, and yet
+-- what is sent first
+abbrev opening : List Send → List ℕ
+opening [] = []
+opening (s ∷ ss) = s .payload
+
+first-byte : {x y : ℕ} (a b : List ℕ) → getD a 0 0 ≡ x → getD b 0 0 ≡ y → (x ≡ y → ⊥) → a ≡ b → ⊥
+first-byte a b p q n e = n (sym p ∙ ap (λ (l : List ℕ). getD l 0 0) e ∙ q)
+
+pub record Differ (t u : Conversation) : Type 0 where
+  pub key : t .controller .scbk ≡ u .controller .scbk → ⊥
+  pub rndA : t .rndA ≡ u .rndA → ⊥
+  pub rndB : t .rndB ≡ u .rndB → ⊥
+  pub contents : opening (t .sends) ≡ opening (u .sends) → ⊥
+
+pub differ : Differ one other
+unfolding one other fresh used sends hidden
+differ = record {
+  key = first-byte _ _ refl refl (λ (e : 0x30 ≡ 0x31). omega arith);
+  rndA = first-byte _ _ refl refl (λ (e : 2 ≡ 4). omega arith);
+  rndB = first-byte _ _ refl refl (λ (e : 3 ≡ 5). omega arith);
+  contents = first-byte (replicate 16 7) (replicate 16 8) refl refl (λ (e : 7 ≡ 8). omega arith);
+}
+
+pub met : Demand3 one other
+met = demand3 one other one-proper other-proper agree

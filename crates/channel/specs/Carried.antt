@@ -1,0 +1,45 @@
+-- A message of the handshake in a frame (docs/RULES.md, 3, 4 and 7.4): built into the sender's buffer, delivered, read by the peer.
+-- Assumes nothing.
+use Prim.Native.Nat.{ℕ, _≤_}
+use mathlib.Core.Bool.{Bool, true}
+use mathlib.Core.List.{List, []}
+use lib.ListN.{length, take, drop}
+use Rattle.laws.specs.Answer.{Answer, Answer.given, Answer.refused}
+use Rattle.packet_parse.specs.Frame.{Fields, parseOf}
+use Rattle.packet_build.specs.Build.{Block.scb, Parts, totalN, buildOf, sized, written}
+
+-- how its sender frames it: any address, sequence number, trailer, block data and code, and the buffer that it is built into
+pub record Wire : Type 0 where
+  pub addr : ℕ
+  pub sqn : ℕ
+  pub useCrc : Bool
+  pub block : List ℕ
+  pub code : ℕ
+  pub out : List ℕ
+
+-- a message x in a frame of type ty, which has no MAC
+abbrev pub wireParts : ℕ → Wire → List ℕ → Parts
+wireParts ty w x = record { addr = w .addr; ctrl = (w .sqn, w .useCrc, true); block = scb ty (w .block); code = w .code; «data» = x; mac = [] }
+
+-- what is sent: as many bytes of the buffer as the call answered, and nothing after a refusal
+unfoldable pub onLine : Answer ℕ → List ℕ → List ℕ
+onLine (given n) o = take n o
+onLine (refused n vs) o = []
+
+-- the data of a frame that was read
+unfoldable pub dataIn : List ℕ → Answer Fields → List ℕ
+dataIn f (given p) = take (p .dataLen) (drop (p .dataStart) f)
+dataIn f (refused n vs) = []
+
+-- what the peer reads
+unfoldable pub carried : ℕ → Wire → List ℕ → List ℕ
+carried ty w x =
+    let b = buildOf (wireParts ty w x) (length (w .out)) in
+    let f = onLine (sized b) (written b (w .out)) in
+    dataIn f (parseOf f)
+
+-- within limits and buffers, for a message of n bytes
+pub record WireFits (w : Wire) (n : ℕ) : Type 0 where
+  pub sqn : w .sqn ≤ 3
+  pub block : length (w .block) ≤ 253
+  pub room : totalN (w .useCrc) true 0 (length (w .block)) n ≤ length (w .out)

@@ -1,0 +1,4 @@
+pub mod Carried
+pub mod Handshake
+pub mod Talk
+pub mod Demand

@@ -1,0 +1,222 @@
+// A frame with its MAC, and its data encrypted where asked.
+ghost use mathlib.Core.Path.{_≡_};
+ghost use Prim.Native.Nat.{_+_, _≤_};
+ghost use mathlib.Core.Bool.{true};
+ghost use mathlib.Core.List.{[]};
+ghost use lib.ListN.{length, take};
+ghost use Rattle.laws.specs.Over.{write};
+ghost use Rattle.packet_build.specs.Build.{Block.scb, bodyBytes, tailBytes};
+ghost use Rattle.packet_head.specs.Block.{typeOf};
+ghost use Rattle.secure_seal.specs.Seal.{typeFor, dataLen, dataOf, totalOf, askedOf, sealedFrame, sealOf, sealTold};
+ghost use Rattle.secure_seal.specs.Core.{Put, refusedWith};
+use packet_head::Address;
+use packet_head::ScsType;
+use packet_head::Sqn;
+use refusal::Refusal;
+use secure_cipher::ChainMac;
+use secure_cipher::LengthAnswer;
+use secure_keys::SessionKeys;
+use secure_session::Session;
+
+// Who sends, as the caller names it.
+pub enum Direction {
+    AcuToPd,
+    PdToAcu,
+}
+
+impl Direction {
+    pub fn scs_for(self, encrypt: bool) -> ScsType
+        ensures { λ r. ⌜ typeOf r ≡ typeFor self encrypt ⌝ }
+    {
+        match self {
+            Direction::AcuToPd => {
+                if encrypt {
+                    ScsType::Scs17
+                } else {
+                    ScsType::Scs15
+                }
+            }
+            Direction::PdToAcu => {
+                if encrypt {
+                    ScsType::Scs18
+                } else {
+                    ScsType::Scs16
+                }
+            }
+        }
+    }
+}
+
+// How long the frame is; how often the cipher was called; the session after it.
+pub struct Sealed {
+    pub answer: LengthAnswer,
+    pub calls: usize,
+    pub session: Session,
+}
+
+// How much data the frame has.
+fn data_len(encrypt: bool, data: &[u8]) -> usize
+    ensures { λ r. ⌜ (r ≡ dataLen encrypt (now («data» .entry))) × (r ≤ length (now («data» .entry)) + 16) ⌝ }
+{
+    if encrypt {
+        data.len() / 16 * 16 + 16
+    } else {
+        data.len()
+    }
+}
+
+// Writes src over the whole of out.
+fn copy(src: &[u8], out: &mut [u8])
+    requires { ⌜ length (now out) ≡ length (now src) ⌝ }
+    ensures { λ _. ⌜ now (out .exit) ≡ now (src .entry) ⌝ }
+{
+    for i in 0..src.len() {
+        out[i] = src[i];
+    }
+}
+
+// The eight bytes before the data, in a frame of total bytes: the block has no data of its own, and the trailer is a CRC.
+fn put_head(addr: Address, sqn: Sqn, kind: ScsType, code: u8, total: usize, out: &mut [u8])
+    requires { ⌜ (sqn .0 ≤ 3) × (total ≤ 65535) × (8 ≤ length (now out)) ⌝ }
+    ensures { λ _. ⌜ now (out .exit) ≡ write (now (out .entry)) 0 (bodyBytes (addr .0) (sqn .0, true, true) (scb (typeOf kind) []) code [] total) ⌝ }
+{
+    let head = [
+        0x53,
+        addr.as_byte(),
+        (total % 256) as u8,
+        (total / 256) as u8,
+        sqn.value() + 0x0C,
+        2,
+        kind.as_byte(),
+        code,
+    ];
+    copy(&head, &mut out[..8]);
+}
+
+// The data over the whole of out; how often the cipher was called for it.
+fn put_data(s_enc: [u8; 16], start: [u8; 16], encrypt: bool, data: &[u8], out: &mut [u8]) -> usize
+    requires { ⌜ length (now out) ≡ dataLen encrypt (now «data») ⌝ }
+    ensures { λ r. ⌜ (now (out .exit) ≡ dataOf encrypt «s_enc» start (now («data» .entry)) .bytes) × (r ≡ dataOf encrypt «s_enc» start (now («data» .entry)) .steps) ⌝ }
+{
+    if encrypt {
+        let iv = secure_cipher::complement_icv(start);
+        let hidden = secure_cipher::encrypt_data(s_enc, iv, data, out);
+        hidden.calls
+    } else {
+        copy(data, out);
+        0
+    }
+}
+
+// Behind the body, which is out up to end: the first four bytes of the MAC, and the CRC.
+fn put_end(full: [u8; 16], end: usize, out: &mut [u8])
+    requires { ⌜ end + 6 ≤ length (now out) ⌝ }
+    ensures { λ _. ⌜ now (out .exit) ≡ write (write (now (out .entry)) end (take 4 full)) (end + 4) (tailBytes true (take (end + 4) (write (now (out .entry)) end (take 4 full)))) ⌝ }
+{
+    let mac = [full[0], full[1], full[2], full[3]];
+    let crc_at = end + 4;
+    copy(&mac, &mut out[end..crc_at]);
+    let crc = packet_sums::crc16_le(&out[..crc_at]);
+    let after = end + 6;
+    copy(&crc, &mut out[crc_at..after]);
+}
+
+// The frame at the front of out, from keys and a start value: its full MAC, and how often the cipher was called for all of it.
+fn put_frame(
+    keys: SessionKeys,
+    start: [u8; 16],
+    addr: Address,
+    sqn: Sqn,
+    direction: Direction,
+    encrypt: bool,
+    code: u8,
+    data: &[u8],
+    total: usize,
+    out: &mut [u8],
+) -> ChainMac
+    requires { ⌜ (sqn .0 ≤ 3) × (total ≡ totalOf (askedOf addr sqn direction encrypt code (now «data»))) × (total ≤ 65535) × (total ≤ length (now out)) ⌝ }
+    ensures { λ r. ⌜ Put (sealedFrame keys start (askedOf addr sqn direction encrypt code (now («data» .entry)))) (now (out .entry)) (now (out .exit)) r ⌝ }
+{
+    let end = total - 6;
+    put_head(addr, sqn, direction.scs_for(encrypt), code, total, out);
+    let s_enc = keys.s_enc;
+    let hidden = put_data(s_enc, start, encrypt, data, &mut out[8..end]);
+    let s_mac1 = keys.s_mac1;
+    let s_mac2 = keys.s_mac2;
+    let mac = secure_cipher::cbc_mac(&out[..end], start, s_mac1, s_mac2);
+    let full = mac.full;
+    put_end(full, end, out);
+    ChainMac {
+        full,
+        calls: hidden + mac.calls,
+    }
+}
+
+// A refusal leaves the session as it was and calls no cipher.
+fn refused(session: Session, e: Refusal) -> Sealed
+    ensures { λ r. ⌜ r ≡ refusedWith session e ⌝ }
+{
+    Sealed {
+        answer: LengthAnswer::Refused(e),
+        calls: 0,
+        session: session,
+    }
+}
+
+// Seals data into out, and hands the session back with its chain moved by the frame's MAC.
+pub fn seal(
+    session: Session,
+    addr: Address,
+    sqn: Sqn,
+    direction: Direction,
+    encrypt: bool,
+    code: u8,
+    data: &[u8],
+    out: &mut [u8],
+) -> Sealed
+    ensures { λ r. ⌜ sealTold r (now (out .exit)) ≡ sealOf session (askedOf addr sqn direction encrypt code (now («data» .entry))) (now (out .entry)) ⌝ }
+{
+    let state = session.state;
+    if !secure_session::is_secure(state) {
+        return refused(session, Refusal::WrongState);
+    }
+    let n = sqn.value();
+    if 3 < n {
+        return refused(session, Refusal::BadSqn(n));
+    }
+    let total = 14 + data_len(encrypt, data);
+    if 65535 < total {
+        let most = Refusal::BufferOverflow {
+            need: total,
+            have: 65535,
+        };
+        return refused(session, most);
+    }
+    if out.len() < total {
+        let short = Refusal::NoRoom {
+            need: total,
+            have: out.len(),
+        };
+        return refused(session, short);
+    }
+    let keys = session.keys;
+    let start = session.send_from();
+    let mac = put_frame(
+        keys,
+        start,
+        addr,
+        sqn,
+        direction,
+        encrypt,
+        code,
+        data,
+        total,
+        out,
+    );
+    let full = mac.full;
+    Sealed {
+        answer: LengthAnswer::Of(total),
+        calls: mac.calls,
+        session: session.sent(full),
+    }
+}
