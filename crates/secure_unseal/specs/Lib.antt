@@ -1,2 +1,3 @@
 pub mod Unseal
 pub mod Lookup
+pub mod Parts

@@ -6,6 +6,8 @@ use mathlib.Core.List.{List, [], _∷_}
 use lib.Dec.{ltb}
 use lib.ListN.{length, take, drop}
 use Rattle.laws.specs.Answer.{Answer, Answer.given, refuseIf}
+use Rattle.refusal.specs.Paper.{refusalOf}
+use Rattle.secure_unseal.specs.declared.lookup.PayloadTest.{PayloadTest}
 
 -- the slice that a place is in
 abbrev pub sliceFor : Bool → List ℕ → List ℕ → List ℕ
@@ -23,3 +25,9 @@ carried n = cond (ltb n (2 ^ 64)) n 18446744073709551615
 unfoldable pub shownTest : Bool → ℕ → ℕ → List ℕ → List ℕ → Answer (Unit {0})
 shownTest inWork start len f w =
     refuseIf (ltb (length (sliceFor inWork f w)) (start + len)) 1 (length (sliceFor inWork f w) ∷ carried (start + len) ∷ []) (given tt)
+
+-- ---- the code's answer, as the paper has it
+
+abbrev pub tested : PayloadTest → Answer (Unit {0})
+tested PayloadTest.Fits = given tt
+tested (PayloadTest.Refused e) = refusalOf e

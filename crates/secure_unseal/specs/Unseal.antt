@@ -13,13 +13,13 @@ use Rattle.refusal.specs.Paper.{refusalOf}
 use Rattle.packet_head.specs.Block.{hasMac, isEncrypted}
 use Rattle.packet_parse.specs.Frame.{Fields, BlockAt, BlockAt.noBlock, BlockAt.blockAt, MacAt, MacAt.noMac, MacAt.macFrom, parseOf}
 use Rattle.secure_keys.specs.declared.crypto.SessionKeys.{SessionKeys}
-use Rattle.secure_cipher.specs.Mac.{Mac, macOf}
+use Rattle.secure_cipher.specs.Mac.{macOf}
 use Rattle.secure_cipher.specs.Cbc.{Opening, reveal, openedInto, wiped}
 use Rattle.secure_session.specs.Session.{isSecure, recvFrom, received}
 use Rattle.secure_session.specs.declared.session.State.{State}
 use Rattle.secure_session.specs.declared.session.Session.{Session}
-use Rattle.secure_unseal.specs.declared.unseal.PlaceAnswer.{PlaceAnswer}
-use Rattle.secure_unseal.specs.declared.unseal.Unsealed.{Unsealed}
+use Rattle.secure_unseal.specs.declared.frame.PlaceAnswer.{PlaceAnswer}
+use Rattle.secure_unseal.specs.declared.frame.Unsealed.{Unsealed}
 
 -- ---- the MAC's check
 

@@ -1,5 +1,10 @@
 // Unsealing a frame, and looking up the payload that was opened.
-mod unseal;
+mod frame;
+mod lookup;
 
-pub use unseal::PlaceAnswer;
-pub use unseal::Unsealed;
+pub use frame::PlaceAnswer;
+pub use frame::Unsealed;
+pub use frame::unseal;
+pub use lookup::PayloadTest;
+pub use lookup::payload;
+pub use lookup::payload_test;

@@ -1,0 +1,102 @@
+-- `unseal_parsed` meets its contract: the block's type decides, and where it has a MAC the frame has room for it.
+-- Assumes nothing.
+use native.Mathlib.Omega.{arith}
+use mathlib.Core.Bool.{true, false}
+use mathlib.Core.Path.{_≡_, sym, ap, _∙_}
+use Prim.Native.Nat.{ℕ}
+use Rattle.packet_head.specs.Block.{hasMac, isEncrypted}
+use Rattle.packet_parse.specs.Frame.{fields, blockPlace}
+use Rattle.packet_parse.specs.declared.codec.BlockPart.{BlockPart}
+use Rattle.secure_unseal.specs.Unseal.{Checked, typeIn, check, openData, unsealPlain, unsealHidden}
+use Rattle.secure_unseal.proofs.Cases.{stops, parsed-no, parsed-hidden, parsed-plain}
+use Rattle.secure_unseal.proofs.MacDue.{mac-inside, data-inside}
+use borrow.Author.Needs.{needs}
+use Rattle.secure_unseal.proofs.frame.unseal_parsed.Statement.{statement}
+use Rattle.secure_unseal.proofs.frame.unseal_parsed.Tie as tie
+
+unseal-hidden-requires : tie.Need-unseal-hidden-requires
+unseal-hidden-requires c κs =
+    let m = c .before .before .before in
+    let h = m .before .before in
+    let g = h .before .before in
+    let s = g .before .before .before .before in
+    let a = s .args in
+    let f = fields (a .p) in
+    let t : hasMac (typeIn (f .block)) ≡ true = ap (λ (b : BlockPart). hasMac (typeIn (blockPlace b))) (g .block .given .1) ∙ sym (h .has-mac .ensures) ∙ m .before .if1 .taken in
+    (omega (arith, m .mac-start .ensures, mac-inside (a .frame .now) f (s .pre) t), data-inside (a .frame .now) f (s .pre))
+
+check-requires : tie.Need-check-requires
+check-requires c κs =
+    let m = c .before .before in
+    let h = m .before .before in
+    let g = h .before .before in
+    let s = g .before .before .before .before in
+    let a = s .args in
+    let f = fields (a .p) in
+    let t : hasMac (typeIn (f .block)) ≡ true = ap (λ (b : BlockPart). hasMac (typeIn (blockPlace b))) (g .block .given .1) ∙ sym (h .has-mac .ensures) ∙ m .before .if1 .taken in
+    omega (arith, m .mac-start .ensures, mac-inside (a .frame .now) f (s .pre) t)
+
+returns : tie.Need-returns
+returns c =
+    let a = c .before .before .before .before .before .args in
+    stops (c .stopped .ensures)
+    (parsed-no (a .keys) (a .start) (a .frame .now) (fields (a .p)) (a .work .now) (ap (λ (b : BlockPart). hasMac (typeIn (blockPlace b))) (c .before .enum-told .given .1)))
+
+returns-2 : tie.Need-returns-2
+returns-2 c =
+    let u = c .before .before in
+    let e = u .before .before .before in
+    let m = e .before in
+    let h = m .before .before in
+    let g = h .before .before in
+    let s = g .before .before .before .before in
+    let a = s .args in
+    let f = fields (a .p) in
+    let t : hasMac (typeIn (f .block)) ≡ true = ap (λ (b : BlockPart). hasMac (typeIn (blockPlace b))) (g .block .given .1) ∙ sym (h .has-mac .ensures) ∙ m .before .if1 .taken in
+    let y : isEncrypted (typeIn (f .block)) ≡ true = ap (λ (b : BlockPart). isEncrypted (typeIn (blockPlace b))) (g .block .given .1) ∙ sym (e .is-encrypted .ensures) ∙ u .before .before .if2 .taken in
+    u .unseal-hidden .ensures
+    ∙ ap (λ (n : ℕ). unsealHidden (check (a .keys) (a .start) (a .frame .now) n) (openData (a .keys) (a .start) (a .frame .now) f) f (a .work .now)) (m .mac-start .ensures)
+    ∙ parsed-hidden (a .keys) (a .start) (a .frame .now) f (a .work .now) t y
+
+returns-3 : tie.Need-returns-3
+returns-3 c =
+    let e = c .before .before .before in
+    let m = e .before in
+    let h = m .before .before in
+    let g = h .before .before in
+    let s = g .before .before .before .before in
+    let a = s .args in
+    let f = fields (a .p) in
+    let t : hasMac (typeIn (f .block)) ≡ true = ap (λ (b : BlockPart). hasMac (typeIn (blockPlace b))) (g .block .given .1) ∙ sym (h .has-mac .ensures) ∙ m .before .if1 .taken in
+    let y : isEncrypted (typeIn (f .block)) ≡ false = ap (λ (b : BlockPart). isEncrypted (typeIn (blockPlace b))) (g .block .given .1) ∙ sym (e .is-encrypted .ensures) ∙ c .before .before .if2 .left in
+    c .unseal-plain .ensures (a .work .now)
+    ∙ ap (λ (x : Checked). unsealPlain x f (a .work .now)) (c .before .check .ensures ∙ ap (check (a .keys) (a .start) (a .frame .now)) (m .mac-start .ensures))
+    ∙ parsed-plain (a .keys) (a .start) (a .frame .now) f (a .work .now) t y
+
+returns-4 : tie.Need-returns-4
+returns-4 c =
+    let h = c .before .before in
+    let g = h .before .before in
+    let a = g .before .before .before .before .args in
+    stops (c .stopped2 .ensures)
+    (parsed-no (a .keys) (a .start) (a .frame .now) (fields (a .p)) (a .work .now) (ap (λ (b : BlockPart). hasMac (typeIn (blockPlace b))) (g .block .given .1) ∙ sym (h .has-mac .ensures) ∙ c .before .if1 .left))
+
+pub unseal-parsed-spec : {M : Type 1} → statement M
+unseal-parsed-spec =
+    tie.close
+    (tie.spec
+    (λ c. search needs)
+    (λ c κs. search needs)
+    (λ c. search needs)
+    (λ c κs. search needs)
+    (λ c κs. search needs)
+    (λ c κs. search needs)
+    unseal-hidden-requires
+    check-requires
+    (λ c κs. search needs)
+    (λ c κs. search needs)
+    returns
+    (λ c. search needs)
+    returns-2
+    returns-3
+    returns-4)

@@ -1,0 +1,86 @@
+// The payload, looked up where an opening said it stands.
+ghost use mathlib.Core.Path.{_≡_};
+ghost use mathlib.Core.List.{[], _∷_};
+ghost use Prim.Native.Nat.{_+_};
+ghost use lib.Dec.{ltb};
+ghost use Rattle.laws.specs.Answer.{Answer.given, refuseIf};
+ghost use Rattle.secure_unseal.specs.Lookup.{shown, carried, shownTest, tested};
+use refusal::Refusal;
+
+pub enum PayloadTest {
+    Fits,
+    Refused(Refusal),
+}
+
+// Whether a place runs past the end of a slice. The sum may pass 64 bits, so it is not made.
+fn outside(size: usize, start: usize, len: usize) -> bool
+    ensures { λ r. ⌜ r ≡ ltb size (start + len) ⌝ }
+{
+    if size < start {
+        return true;
+    }
+    size - start < len
+}
+
+// The end of a place, as 64 bits carry it.
+fn end_of(start: usize, len: usize) -> usize
+    ensures { λ r. ⌜ r ≡ carried (start + len) ⌝ }
+{
+    if outside(0xffff_ffff_ffff_ffff, start, len) {
+        0xffff_ffff_ffff_ffff
+    } else {
+        start + len
+    }
+}
+
+// The place's part of the work buffer or of the frame; outside, the frame's empty first part.
+pub fn payload<'a>(
+    frame: &'a [u8],
+    work: &'a [u8],
+    in_work: bool,
+    start: usize,
+    len: usize,
+) -> &'a [u8]
+    ensures { λ r. ⌜ now r ≡ shown «in_work» start len (now (frame .entry)) (now (work .entry)) ⌝ }
+{
+    if in_work {
+        if outside(work.len(), start, len) {
+            return &frame[..0];
+        }
+        return &work[start..start + len];
+    }
+    if outside(frame.len(), start, len) {
+        return &frame[..0];
+    }
+    &frame[start..start + len]
+}
+
+fn test(size: usize, start: usize, len: usize) -> PayloadTest
+    ensures { λ r. ⌜ tested r ≡ refuseIf (ltb size (start + len)) 1 (size ∷ carried (start + len) ∷ []) (given tt) ⌝ }
+{
+    if outside(size, start, len) {
+        PayloadTest::Refused(Refusal::Truncated {
+            have: size,
+            need: end_of(start, len),
+        })
+    } else {
+        PayloadTest::Fits
+    }
+}
+
+// Whether `payload` shows the place, or shows nothing since it runs outside.
+pub fn payload_test(
+    frame: &[u8],
+    work: &[u8],
+    in_work: bool,
+    start: usize,
+    len: usize,
+) -> PayloadTest
+    ensures { λ r. ⌜ tested r ≡ shownTest «in_work» start len (now (frame .entry)) (now (work .entry)) ⌝ }
+{
+    if in_work {
+        test(work.len(), start, len)
+    } else {
+        test(frame.len(), start, len)
+    }
+}
