@@ -22,12 +22,12 @@ use Rattle.secure_session.proofs.session.SteppedBlock as B
 use Rattle.secure_session.proofs.session.SteppedBlock.Laws as B′
 use Rattle.secure_session.proofs.session.BlockAnswer as N
 use Rattle.secure_session.proofs.session.BlockAnswer.Laws as N′
-use Rattle.secure_seal.specs.declared.seal.Sealed.{Sealed}
-use Rattle.secure_seal.proofs.seal.Sealed as D
-use Rattle.secure_seal.proofs.seal.Sealed.Laws as D′
-use Rattle.secure_unseal.specs.declared.unseal.Unsealed.{Unsealed}
-use Rattle.secure_unseal.proofs.unseal.Unsealed as U
-use Rattle.secure_unseal.proofs.unseal.Unsealed.Laws as U′
+use Rattle.secure_seal.specs.declared.frame.Sealed.{Sealed}
+use Rattle.secure_seal.proofs.frame.Sealed as D
+use Rattle.secure_seal.proofs.frame.Sealed.Laws as D′
+use Rattle.secure_unseal.specs.declared.frame.Unsealed.{Unsealed}
+use Rattle.secure_unseal.proofs.frame.Unsealed as U
+use Rattle.secure_unseal.proofs.frame.Unsealed.Laws as U′
 use Rattle.secure_lent.proofs.lent.SealedLent as L
 use Rattle.secure_lent.proofs.lent.SealedLent.Laws as L′
 use Rattle.secure_lent.proofs.lent.UnsealedLent as P

@@ -46,9 +46,9 @@ use Rattle.packet_head.proofs.header.Address.Laws as Ad′
 use Rattle.packet_head.specs.declared.header.Sqn.{Sqn}
 use Rattle.packet_head.proofs.header.Sqn as Sq
 use Rattle.packet_head.proofs.header.Sqn.Laws as Sq′
-use Rattle.secure_seal.specs.declared.seal.Direction.{Direction}
-use Rattle.secure_seal.proofs.seal.Direction as Di
-use Rattle.secure_seal.proofs.seal.Direction.Laws as Di′
+use Rattle.secure_seal.specs.declared.frame.Direction.{Direction}
+use Rattle.secure_seal.proofs.frame.Direction as Di
+use Rattle.secure_seal.proofs.frame.Direction.Laws as Di′
 
 abbrev pub an-address : Datum Ad.the-row Ad′.mir
 an-address = record { low = Ad′.lowered; tells = Ad′.lowers .val-is; typed = λ 𝓤 H A W x p. LL.lawful Ad.the-type Ad′.the-laws 𝓤 H A W .typed x _ p .0; makes = λ 𝓤 H A W. LL.makes Ad.the-type Ad′.the-plain 𝓤 H A }

@@ -1,9 +1,14 @@
 // The calls of a session on one that is lent: each makes the call by value and stores the session that comes back.
 ghost use mathlib.Core.Path.{_≡_};
 ghost use Rattle.secure_session.specs.Session.{wipedOf};
-ghost use Rattle.secure_session.specs.Handshake.{Step, challengeOf, receiveCcryptOf, confirmOf, receiveChallengeOf, receiveScryptOf, stepped, steppedBlock, blockBeside};
+ghost use Rattle.secure_session.specs.Handshake.{challengeOf, receiveCcryptOf, confirmOf, receiveChallengeOf, receiveScryptOf, stepped, steppedBlock, blockBeside};
 ghost use Rattle.secure_session.specs.Channel.{makeMac, verifyOf};
+ghost use Rattle.secure_seal.specs.Seal.{askedOf, sealOf, sealTold};
+ghost use Rattle.secure_unseal.specs.Unseal.{unsealOf, unsealTold};
+use packet_head::Address;
+use packet_head::Sqn;
 use secure_cipher::LengthAnswer;
+use secure_seal::Direction;
 use secure_session::BlockAnswer;
 use secure_session::Outcome;
 use secure_session::Session;
@@ -98,4 +103,35 @@ pub fn verify(session: &mut Session, bytes: &[u8], wire_mac: [u8; 4]) -> Outcome
     let r = (*session).verify(bytes, wire_mac);
     *session = r.session;
     r.outcome
+}
+
+pub fn seal(
+    session: &mut Session,
+    addr: Address,
+    sqn: Sqn,
+    direction: Direction,
+    encrypt: bool,
+    code: u8,
+    data: &[u8],
+    out: &mut [u8],
+) -> SealedLent
+    ensures { λ r. ⌜ sealTold (record { answer = r .answer; calls = r .calls; session = now (session .exit) }) (now (out .exit)) ≡ sealOf (now (session .entry)) (askedOf addr sqn direction encrypt code (now («data» .entry))) (now (out .entry)) ⌝ }
+{
+    let r = secure_seal::seal(*session, addr, sqn, direction, encrypt, code, data, out);
+    *session = r.session;
+    SealedLent {
+        answer: r.answer,
+        calls: r.calls,
+    }
+}
+
+pub fn unseal(session: &mut Session, frame: &[u8], work: &mut [u8]) -> UnsealedLent
+    ensures { λ r. ⌜ unsealTold (record { answer = r .answer; calls = r .calls; session = now (session .exit) }) (now (work .exit)) ≡ unsealOf (now (session .entry)) (now (frame .entry)) (now (work .entry)) ⌝ }
+{
+    let r = secure_unseal::unseal(*session, frame, work);
+    *session = r.session;
+    UnsealedLent {
+        answer: r.answer,
+        calls: r.calls,
+    }
 }

@@ -9,5 +9,7 @@ pub use lent::mac;
 pub use lent::receive_ccrypt;
 pub use lent::receive_challenge;
 pub use lent::receive_scrypt;
+pub use lent::seal;
+pub use lent::unseal;
 pub use lent::verify;
 pub use lent::wipe;
