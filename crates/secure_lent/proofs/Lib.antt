@@ -1,0 +1,10 @@
+pub mod Lending
+pub mod Results
+pub mod Alone
+pub mod OneArray
+pub mod TwoArrays
+pub mod ThreeArrays
+pub mod Slice
+pub mod SliceArray
+pub mod Slices
+pub mod Sealing

@@ -1,0 +1,206 @@
+-- What the calls by value return, as `Lending.antt`'s `Result`: where the session and the answer stand in it.
+-- Assumes nothing.
+use mathlib.Core.Path.{refl, subst}
+use mathlib.Core.List.{[], _∷_}
+use mir.Syntax.{tyUnit, place, field, copy, opdUnit, rvOpd, aggregate}
+use mir.Val.{vunit}
+use types.Run.{stop, fld, load, of-opd, and-then, no-more, unit-lit}
+use types.Part.{agg, sub, look-in}
+use denote.Laws.{Is}
+use denote.Builtin.{unit}
+use denote.Plain.{nothing-tells, nothing-lawful, nothing-makes}
+use denote.Struct.Laws as LL
+use denote.Enum.Laws as EL
+use Rattle.secure_session.specs.declared.session.SteppedBlock.{SteppedBlock}
+use Rattle.secure_session.proofs.session.Session as T
+use Rattle.secure_session.proofs.session.Session.Laws as T′
+use Rattle.secure_session.proofs.session.Outcome as O
+use Rattle.secure_session.proofs.session.Outcome.Laws as O′
+use Rattle.secure_session.proofs.session.Stepped as S
+use Rattle.secure_session.proofs.session.Stepped.Laws as S′
+use Rattle.secure_session.proofs.session.SteppedBlock as B
+use Rattle.secure_session.proofs.session.SteppedBlock.Laws as B′
+use Rattle.secure_session.proofs.session.BlockAnswer as N
+use Rattle.secure_session.proofs.session.BlockAnswer.Laws as N′
+use Rattle.secure_seal.specs.declared.frame.Sealed.{Sealed}
+use Rattle.secure_seal.proofs.frame.Sealed as D
+use Rattle.secure_seal.proofs.frame.Sealed.Laws as D′
+use Rattle.secure_unseal.specs.declared.frame.Unsealed.{Unsealed}
+use Rattle.secure_unseal.proofs.frame.Unsealed as U
+use Rattle.secure_unseal.proofs.frame.Unsealed.Laws as U′
+use Rattle.secure_lent.proofs.lent.SealedLent as L
+use Rattle.secure_lent.proofs.lent.SealedLent.Laws as L′
+use Rattle.secure_lent.proofs.lent.UnsealedLent as P
+use Rattle.secure_lent.proofs.lent.UnsealedLent.Laws as P′
+use Rattle.secure_lent.proofs.Lending.{Datum, Result, near}
+
+-- ---- a session alone
+abbrev pub a-session : Datum T.the-row T′.mir
+a-session = record {
+  low = T′.lowered;
+  tells = T′.lowers .val-is;
+  typed = λ 𝓤 H A W x p. LL.lawful T.the-type T′.the-laws 𝓤 H A W .typed x _ p .0;
+  makes = λ 𝓤 H A W. LL.makes T.the-type T′.the-plain 𝓤 H A;
+}
+
+abbrev pub no-answer : Datum unit tyUnit
+no-answer = record {
+  low = λ _. vunit;
+  tells = nothing-tells;
+  typed = λ 𝓤 H A W x p. nothing-lawful 𝓤 H A W .typed x _ p .0;
+  makes = λ 𝓤 H A W. nothing-makes 𝓤 H A W;
+}
+
+abbrev pub session-only : Result T.the-row unit T′.mir tyUnit
+session-only = record {
+  whole = a-session;
+  part = no-answer;
+  session = λ s. s;
+  answer = λ s. tt;
+  both = λ u s. s;
+  apart = λ s. refl;
+  session-is = λ s is. is;
+  answer-is = λ s is. refl;
+  session-at = λ i. copy (place i []);
+  answer-at = λ i. rvOpd opdUnit;
+  reads-session = λ t s n e c. load t (near t e (stop t)) (look-in t n c);
+  reads-answer = λ t s n e c. of-opd t (unit-lit t);
+}
+
+-- ---- an outcome beside it
+abbrev pub an-outcome : Datum O.the-row O′.mir
+an-outcome = record {
+  low = O′.lowered;
+  tells = O′.lowers .val-is;
+  typed = λ 𝓤 H A W x p. EL.lawful O.the-type O′.the-laws 𝓤 H A W tt .typed x _ p .0;
+  makes = λ 𝓤 H A W. EL.makes O.the-type O′.the-plain 𝓤 H A;
+}
+
+abbrev pub with-outcome : Result S.the-row O.the-row S′.mir O′.mir
+with-outcome = record {
+  whole = record {
+    low = S′.lowered;
+    tells = S′.lowers .val-is;
+    typed = λ 𝓤 H A W x p. LL.lawful S.the-type S′.the-laws 𝓤 H A W .typed x _ p .0;
+    makes = λ 𝓤 H A W. LL.makes S.the-type S′.the-plain 𝓤 H A;
+  };
+  part = an-outcome;
+  session = λ r. r .session;
+  answer = λ r. r .outcome;
+  both = λ a s. record { outcome = a; session = s };
+  apart = λ r. refl;
+  session-is = λ r is. subst (Is T.the-row (r .session)) (T′.lowers .val-is (r .session) _ (LL.owed S.the-type S′.the-laws r _ is .1 .0)) (LL.owed S.the-type S′.the-laws r _ is .1 .0);
+  answer-is = λ r is. subst (Is O.the-row (r .outcome)) (O′.lowers .val-is (r .outcome) _ (LL.owed S.the-type S′.the-laws r _ is .0)) (LL.owed S.the-type S′.the-laws r _ is .0);
+  session-at = λ i. copy (place i (field 1 ∷ []));
+  answer-at = λ i. rvOpd (copy (place i (field 0 ∷ [])));
+  reads-session = λ t r n e c. load t (near t e (fld t refl (stop t))) (look-in t n (sub t 1 refl c));
+  reads-answer = λ t r n e c. of-opd t (load t (near t e (fld t refl (stop t))) (look-in t n (sub t 0 refl c)));
+}
+
+-- ---- an outcome and a block beside it
+abbrev pub a-block-answer : Datum N.the-row N′.mir
+a-block-answer = record {
+  low = N′.lowered;
+  tells = N′.lowers .val-is;
+  typed = λ 𝓤 H A W x p. LL.lawful N.the-type N′.the-laws 𝓤 H A W .typed x _ p .0;
+  makes = λ 𝓤 H A W. LL.makes N.the-type N′.the-plain 𝓤 H A;
+}
+
+pub block-answer-is : (r : SteppedBlock) → Is B.the-row r (B′.lowered r ∷ []) → Is N.the-row (record { outcome = r .outcome; block = r .block }) (N′.lowered (record { outcome = r .outcome; block = r .block }) ∷ [])
+block-answer-is r is =
+    let w = LL.owed B.the-type B′.the-laws r _ is in
+    let p = LL.owes N.the-type N′.the-laws (record { outcome = r .outcome; block = r .block }) (w .0, (w .1 .0, tt)) in
+    subst (Is N.the-row (record { outcome = r .outcome; block = r .block })) (N′.lowers .val-is (record { outcome = r .outcome; block = r .block }) _ p) p
+
+abbrev pub with-block : Result B.the-row N.the-row B′.mir N′.mir
+with-block = record {
+  whole = record {
+    low = B′.lowered;
+    tells = B′.lowers .val-is;
+    typed = λ 𝓤 H A W x p. LL.lawful B.the-type B′.the-laws 𝓤 H A W .typed x _ p .0;
+    makes = λ 𝓤 H A W. LL.makes B.the-type B′.the-plain 𝓤 H A;
+  };
+  part = a-block-answer;
+  session = λ r. r .session;
+  answer = λ r. record { outcome = r .outcome; block = r .block };
+  both = λ a s. record { outcome = a .outcome; block = a .block; session = s };
+  apart = λ r. refl;
+  session-is = λ r is. subst (Is T.the-row (r .session)) (T′.lowers .val-is (r .session) _ (LL.owed B.the-type B′.the-laws r _ is .1 .1 .0)) (LL.owed B.the-type B′.the-laws r _ is .1 .1 .0);
+  answer-is = block-answer-is;
+  session-at = λ i. copy (place i (field 2 ∷ []));
+  answer-at = λ i. aggregate (copy (place i (field 0 ∷ [])) ∷ copy (place i (field 1 ∷ [])) ∷ []);
+  reads-session = λ t r n e c. load t (near t e (fld t refl (stop t))) (look-in t n (sub t 2 refl c));
+  reads-answer = λ t r n e c. agg t (and-then t (load t (near t e (fld t refl (stop t))) (look-in t n (sub t 0 refl c))) (and-then t (load t (near t e (fld t refl (stop t))) (look-in t n (sub t 1 refl c))) (no-more t)));
+}
+
+-- ---- what sealing answers
+abbrev pub a-sealed-answer : Datum L.the-row L′.mir
+a-sealed-answer = record {
+  low = L′.lowered;
+  tells = L′.lowers .val-is;
+  typed = λ 𝓤 H A W x p. LL.lawful L.the-type L′.the-laws 𝓤 H A W .typed x _ p .0;
+  makes = λ 𝓤 H A W. LL.makes L.the-type L′.the-plain 𝓤 H A;
+}
+
+pub sealed-answer-is : (r : Sealed) → Is D.the-row r (D′.lowered r ∷ []) → Is L.the-row (record { answer = r .answer; calls = r .calls }) (L′.lowered (record { answer = r .answer; calls = r .calls }) ∷ [])
+sealed-answer-is r is =
+    let w = LL.owed D.the-type D′.the-laws r _ is in
+    let p = LL.owes L.the-type L′.the-laws (record { answer = r .answer; calls = r .calls }) (w .0, (w .1 .0, tt)) in
+    subst (Is L.the-row (record { answer = r .answer; calls = r .calls })) (L′.lowers .val-is (record { answer = r .answer; calls = r .calls }) _ p) p
+
+abbrev pub with-length : Result D.the-row L.the-row D′.mir L′.mir
+with-length = record {
+  whole = record {
+    low = D′.lowered;
+    tells = D′.lowers .val-is;
+    typed = λ 𝓤 H A W x p. LL.lawful D.the-type D′.the-laws 𝓤 H A W .typed x _ p .0;
+    makes = λ 𝓤 H A W. LL.makes D.the-type D′.the-plain 𝓤 H A;
+  };
+  part = a-sealed-answer;
+  session = λ r. r .session;
+  answer = λ r. record { answer = r .answer; calls = r .calls };
+  both = λ a s. record { answer = a .answer; calls = a .calls; session = s };
+  apart = λ r. refl;
+  session-is = λ r is. subst (Is T.the-row (r .session)) (T′.lowers .val-is (r .session) _ (LL.owed D.the-type D′.the-laws r _ is .1 .1 .0)) (LL.owed D.the-type D′.the-laws r _ is .1 .1 .0);
+  answer-is = sealed-answer-is;
+  session-at = λ i. copy (place i (field 2 ∷ []));
+  answer-at = λ i. aggregate (copy (place i (field 0 ∷ [])) ∷ copy (place i (field 1 ∷ [])) ∷ []);
+  reads-session = λ t r n e c. load t (near t e (fld t refl (stop t))) (look-in t n (sub t 2 refl c));
+  reads-answer = λ t r n e c. agg t (and-then t (load t (near t e (fld t refl (stop t))) (look-in t n (sub t 0 refl c))) (and-then t (load t (near t e (fld t refl (stop t))) (look-in t n (sub t 1 refl c))) (no-more t)));
+}
+
+-- ---- what unsealing answers
+abbrev pub a-unsealed-answer : Datum P.the-row P′.mir
+a-unsealed-answer = record {
+  low = P′.lowered;
+  tells = P′.lowers .val-is;
+  typed = λ 𝓤 H A W x p. LL.lawful P.the-type P′.the-laws 𝓤 H A W .typed x _ p .0;
+  makes = λ 𝓤 H A W. LL.makes P.the-type P′.the-plain 𝓤 H A;
+}
+
+pub unsealed-answer-is : (r : Unsealed) → Is U.the-row r (U′.lowered r ∷ []) → Is P.the-row (record { answer = r .answer; calls = r .calls }) (P′.lowered (record { answer = r .answer; calls = r .calls }) ∷ [])
+unsealed-answer-is r is =
+    let w = LL.owed U.the-type U′.the-laws r _ is in
+    let p = LL.owes P.the-type P′.the-laws (record { answer = r .answer; calls = r .calls }) (w .0, (w .1 .0, tt)) in
+    subst (Is P.the-row (record { answer = r .answer; calls = r .calls })) (P′.lowers .val-is (record { answer = r .answer; calls = r .calls }) _ p) p
+
+abbrev pub with-place : Result U.the-row P.the-row U′.mir P′.mir
+with-place = record {
+  whole = record {
+    low = U′.lowered;
+    tells = U′.lowers .val-is;
+    typed = λ 𝓤 H A W x p. LL.lawful U.the-type U′.the-laws 𝓤 H A W .typed x _ p .0;
+    makes = λ 𝓤 H A W. LL.makes U.the-type U′.the-plain 𝓤 H A;
+  };
+  part = a-unsealed-answer;
+  session = λ r. r .session;
+  answer = λ r. record { answer = r .answer; calls = r .calls };
+  both = λ a s. record { answer = a .answer; calls = a .calls; session = s };
+  apart = λ r. refl;
+  session-is = λ r is. subst (Is T.the-row (r .session)) (T′.lowers .val-is (r .session) _ (LL.owed U.the-type U′.the-laws r _ is .1 .1 .0)) (LL.owed U.the-type U′.the-laws r _ is .1 .1 .0);
+  answer-is = unsealed-answer-is;
+  session-at = λ i. copy (place i (field 2 ∷ []));
+  answer-at = λ i. aggregate (copy (place i (field 0 ∷ [])) ∷ copy (place i (field 1 ∷ [])) ∷ []);
+  reads-session = λ t r n e c. load t (near t e (fld t refl (stop t))) (look-in t n (sub t 2 refl c));
+  reads-answer = λ t r n e c. agg t (and-then t (load t (near t e (fld t refl (stop t))) (look-in t n (sub t 0 refl c))) (and-then t (load t (near t e (fld t refl (stop t))) (look-in t n (sub t 1 refl c))) (no-more t)));
+}
