@@ -1,4 +1,4 @@
-// Everything of a frame, under one name: reading it, building it, and its small kinds.
+// Everything of a frame, under one name: reading it, viewing it, building it, and its small kinds.
 pub use packet_build::BuildBlock;
 pub use packet_build::Built;
 pub use packet_build::GivenMac;
@@ -28,3 +28,12 @@ pub use packet_parse::parse;
 pub use packet_sums::checksum8;
 pub use packet_sums::crc16;
 pub use packet_sums::crc16_le;
+pub use packet_view::BlockKind;
+pub use packet_view::Outcome;
+pub use packet_view::PacketView;
+pub use packet_view::Places;
+pub use packet_view::block_data_in;
+pub use packet_view::mac_in;
+pub use packet_view::part;
+pub use packet_view::payload_in;
+pub use packet_view::places_in;

@@ -1,13 +1,12 @@
 -- The calls of the handshake, at both ends (docs/RULES.md, 7): each answers, and leaves a session.
 -- Assumes nothing.
 use Prim.Native.Nat.{ℕ}
-use mathlib.Core.Bool.{Bool, cond}
+use mathlib.Core.Bool.{cond}
 use mathlib.Core.List.{List, []}
 use Rattle.laws.specs.Answer.{Answer, Answer.given, Answer.refused}
 use Rattle.laws.specs.Bytes.{zeros, eql}
 use Rattle.refusal.specs.Paper.{refusalOf}
 use Rattle.secure_keys.specs.Keys.{derive, clientOf, serverOf, firstOf}
-use Rattle.secure_keys.specs.declared.crypto.SessionKeys.{SessionKeys}
 use Rattle.secure_session.specs.Session.{isAt, reset, moved, secured}
 use Rattle.secure_session.specs.declared.session.End.the-variants.{Controller, Reader}
 use Rattle.secure_session.specs.declared.session.State.the-variants.{Disconnected, Challenged, Cryptogrammed}

@@ -1,7 +1,7 @@
 -- The session's record and its chain value (docs/RULES.md, 7).
 -- Assumes nothing.
 use Prim.Native.Nat.{ℕ}
-use mathlib.Core.Bool.{Bool, true, false, _&&_}
+use mathlib.Core.Bool.{Bool, _&&_}
 use mathlib.Core.List.{List}
 use lib.Dec.{eqb}
 use Rattle.laws.specs.Bytes.{zeros}

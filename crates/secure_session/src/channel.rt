@@ -2,7 +2,7 @@
 ghost use mathlib.Core.Path.{_≡_};
 ghost use Rattle.secure_cipher.specs.Cbc.{told};
 ghost use Rattle.secure_session.specs.Session.{isSecure, sendFrom, recvFrom, sent, received};
-ghost use Rattle.secure_session.specs.Handshake.{Step, stepped, steppedBlock, blockAnswer, blockBeside};
+ghost use Rattle.secure_session.specs.Handshake.{stepped, steppedBlock, blockAnswer, blockBeside};
 ghost use Rattle.secure_session.specs.Channel.{macFrom, makeMac, verifyOf, keysOf, lastOtherMacOf, sealDataOf, openDataOf, keysAnswer, keysBeside};
 use super::session;
 use super::session::BlockAnswer;

@@ -4,7 +4,7 @@ ghost use Rattle.laws.specs.Bytes.{zeros};
 ghost use Rattle.secure_keys.specs.Keys.{firstOf};
 ghost use Rattle.secure_session.specs.Session.{endNumber, stateNumber, isAt, noKeys, fresh, reset, wipedOf, moved, secured};
 ghost use Rattle.secure_session.specs.declared.session.End.the-variants.{Controller, Reader};
-ghost use Rattle.secure_session.specs.Handshake.{Step, challengeOf, receiveCcryptOf, serverCryptogramOf, initialRmacOf, confirmOf, receiveChallengeOf, receiveScryptOf, serverFor, firstFor, stepped, steppedBlock, blockAnswer, blockBeside};
+ghost use Rattle.secure_session.specs.Handshake.{challengeOf, receiveCcryptOf, serverCryptogramOf, initialRmacOf, confirmOf, receiveChallengeOf, receiveScryptOf, serverFor, stepped, steppedBlock, blockAnswer, blockBeside};
 use refusal::Refusal;
 use secure_keys::SessionKeys;
 

@@ -1,7 +1,6 @@
 -- `secure_cipher::pad::pad_data` meets its contract: the bytes, 80 and zeros, one after the other.
 -- Assumes nothing.
-use Prim.Native.Nat.{_+_, _*_, _/_}
-use mathlib.Core.Path.{_≡_, refl}
+use mathlib.Core.Path.{refl}
 use native.Mathlib.Omega.{arith}
 use lib.ListN.{length, length-set}
 use Rattle.secure_cipher.specs.Pad.{padData}
