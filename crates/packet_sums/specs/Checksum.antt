@@ -1,4 +1,4 @@
--- The checksum (docs/RULES.md, Frame): the byte that makes the sum of all 0 modulo 256.
+-- The checksum (docs/RULES.md, 2.5): the byte that makes the sum of all 0 modulo 256.
 -- Assumes nothing.
 use Prim.Native.Nat.{ℕ, _+_, _-_, _%_}
 use mathlib.Core.List.{List, [], _∷_}

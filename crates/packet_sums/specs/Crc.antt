@@ -1,4 +1,4 @@
--- The CRC (docs/RULES.md, Frame): polynomial 1021 hex, start 1D0F, high bit first, no final change.
+-- The CRC (docs/RULES.md, 2.6): polynomial 1021 hex, start 1D0F, high bit first, no final change.
 -- Assumes nothing.
 use Prim.Native.Nat.{ℕ, zero, suc, _*_, _/_, _%_}
 use mathlib.Core.List.{List, [], _∷_}
