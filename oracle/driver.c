@@ -1,0 +1,122 @@
+/* The proved side of the comparison: reads batches of requests, calls the archive, writes the answers.
+   A batch is its length (u32) and requests; a request is an op (u8), the length of its input (u32) and the input.
+   Answers are laid out as oracle/beside/src/wire.rs says. All numbers have their low byte first. */
+#include <stdbool.h>
+#include <stddef.h>
+#include <stdint.h>
+#include <stdio.h>
+#include <stdlib.h>
+#include <string.h>
+
+typedef struct { uint8_t refusal; size_t a, b; } Answer;
+typedef struct { Answer answer; uint8_t sqn; bool crc, block; } Control;
+typedef struct { Answer answer; uint8_t ty, data_len; } Block;
+typedef struct { Answer answer; uint8_t addr; size_t len; uint8_t sqn; bool crc, block; } Head;
+typedef struct {
+    Answer answer; uint8_t addr, sqn; bool crc, block; uint8_t block_type; size_t block_start, block_len; uint8_t code;
+    size_t data_start, data_len, mac_start; bool trailer_is_crc; uint16_t trailer; size_t len;
+} Parsed;
+typedef struct { uint8_t addr, sqn; bool crc, block; uint8_t block_type, code; } Packet;
+typedef struct { bool given; uint8_t b0, b1, b2, b3; } Mac;
+
+uint8_t malstrink_checksum8(const uint8_t *p, size_t n);
+uint16_t malstrink_crc16(const uint8_t *p, size_t n);
+Answer malstrink_address_pd(uint8_t addr);
+Answer malstrink_address_reply(uint8_t addr);
+Answer malstrink_sqn_new(uint8_t n);
+Answer malstrink_sqn_next(uint8_t n);
+Control malstrink_control_decode(uint8_t byte);
+Answer malstrink_control_encode(uint8_t sqn, bool crc, bool block);
+Answer malstrink_scs_type(uint8_t byte);
+Block malstrink_block(const uint8_t *p, size_t n);
+Head malstrink_head(const uint8_t *p, size_t n);
+Parsed malstrink_parse(const uint8_t *p, size_t n);
+Answer malstrink_build(Packet p, const uint8_t *block, size_t bn, const uint8_t *data, size_t dn, Mac mac, uint8_t *out, size_t on);
+Answer malstrink_build_body(Packet p, const uint8_t *block, size_t bn, const uint8_t *data, size_t dn, uint8_t *out, size_t on);
+
+static uint8_t *answers;
+static size_t used, held;
+
+static void put(const void *p, size_t n) {
+    if (held < used + n) {
+        held = 2 * (used + n);
+        answers = realloc(answers, held);
+        if (!answers) exit(3);
+    }
+    memcpy(answers + used, p, n);
+    used += n;
+}
+static void put8(uint8_t x) { put(&x, 1); }
+static void put16(uint16_t x) { put8((uint8_t)x); put8((uint8_t)(x >> 8)); }
+static void put64(uint64_t x) { for (int i = 0; i < 8; i++) put8((uint8_t)(x >> (8 * i))); }
+static void put_answer(Answer a) { put8(a.refusal); put64(a.a); put64(a.b); }
+static uint32_t get32(const uint8_t *p) { return p[0] | p[1] << 8 | p[2] << 16 | (uint32_t)p[3] << 24; }
+
+/* What a lent buffer holds before the call; GUARD bytes more follow it, which no call may touch. */
+enum { GUARD = 16 };
+static void fill(uint8_t *out, size_t n) { for (size_t i = 0; i < n; i++) out[i] = (uint8_t)(0xA5 ^ (i * 7)); }
+
+static void parse(const uint8_t *in, size_t n) {
+    Parsed p = malstrink_parse(in, n);
+    put_answer(p.answer);
+    put8(p.addr); put8(p.sqn); put8(p.crc); put8(p.block); put8(p.block_type);
+    put64(p.block_start); put64(p.block_len); put8(p.code);
+    put64(p.data_start); put64(p.data_len); put64(p.mac_start);
+    put8(p.trailer_is_crc); put16(p.trailer); put64(p.len);
+}
+
+static void build(const uint8_t *in, bool body) {
+    Packet p = { in[0], in[1], in[2], in[3], in[4], in[5] };
+    Mac mac = { in[6], in[7], in[8], in[9], in[10] };
+    size_t bn = get32(in + 11), dn = get32(in + 15), room = get32(in + 19);
+    const uint8_t *block = in + 23, *data = block + bn;
+    uint8_t *out = malloc(room + GUARD);
+    if (!out) exit(3);
+    fill(out, room + GUARD);
+    put_answer(body ? malstrink_build_body(p, block, bn, data, dn, out, room) : malstrink_build(p, block, bn, data, dn, mac, out, room));
+    put(out, room + GUARD);
+    free(out);
+}
+
+static void call(uint8_t op, const uint8_t *in, size_t n) {
+    switch (op) {
+    case 0: put8(malstrink_checksum8(in, n)); break;
+    case 1: put16(malstrink_crc16(in, n)); break;
+    case 2: put_answer(malstrink_address_pd(in[0])); break;
+    case 3: put_answer(malstrink_address_reply(in[0])); break;
+    case 4: put_answer(malstrink_sqn_new(in[0])); break;
+    case 5: put_answer(malstrink_sqn_next(in[0])); break;
+    case 6: { Control c = malstrink_control_decode(in[0]); put_answer(c.answer); put8(c.sqn); put8(c.crc); put8(c.block); break; }
+    case 7: put_answer(malstrink_control_encode(in[0], in[1], in[2])); break;
+    case 8: put_answer(malstrink_scs_type(in[0])); break;
+    case 9: { Block b = malstrink_block(in, n); put_answer(b.answer); put8(b.ty); put8(b.data_len); break; }
+    case 10: { Head h = malstrink_head(in, n); put_answer(h.answer); put8(h.addr); put64(h.len); put8(h.sqn); put8(h.crc); put8(h.block); break; }
+    case 11: parse(in, n); break;
+    case 12: build(in, false); break;
+    case 13: build(in, true); break;
+    default: exit(4);
+    }
+}
+
+int main(void) {
+    uint8_t head[4], *batch = NULL;
+    size_t room = 0;
+    while (fread(head, 1, 4, stdin) == 4) {
+        size_t n = get32(head), at = 0;
+        if (room < n) { room = n; batch = realloc(batch, room); if (!batch) return 3; }
+        if (fread(batch, 1, n, stdin) != n) return 2;
+        used = 0;
+        put("\0\0\0\0", 4);
+        while (at + 5 <= n) {
+            size_t len = get32(batch + at + 1), before = used;
+            put("\0\0\0\0", 4);
+            call(batch[at], batch + at + 5, len);
+            size_t got = used - before - 4;
+            for (int i = 0; i < 4; i++) answers[before + i] = (uint8_t)(got >> (8 * i));
+            at += 5 + len;
+        }
+        for (int i = 0; i < 4; i++) answers[i] = (uint8_t)((used - 4) >> (8 * i));
+        if (fwrite(answers, 1, used, stdout) != used || fflush(stdout)) return 2;
+    }
+    return 0;
+}
