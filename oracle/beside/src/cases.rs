@@ -226,9 +226,7 @@ fn build(c: &mut Compare, ask: Ask) {
     }
     for room in rooms {
         let ask = Ask { room, ..ask.clone() };
-        if ask.mac.is_none() {
-            c.ask(BUILD_BODY, ask.bytes());
-        }
+        c.ask(BUILD_BODY, ask.bytes());
         c.ask(BUILD, ask.bytes());
     }
 }
