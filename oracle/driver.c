@@ -17,6 +17,11 @@ typedef struct {
     size_t data_start, data_len, mac_start; bool trailer_is_crc; uint16_t trailer; size_t len;
 } Parsed;
 typedef struct { uint8_t addr, sqn; bool crc, block; uint8_t block_type, code; } Packet;
+typedef struct { uint8_t bytes[16]; } Bytes16;
+typedef struct { uint8_t bytes[8]; } Bytes8;
+typedef struct { uint8_t s_enc[16], s_mac1[16], s_mac2[16]; } Keys;
+typedef struct { Answer answer; size_t calls; } Ciphered;
+typedef struct { uint8_t full[16]; size_t calls; } Chain;
 typedef struct { bool given; uint8_t b0, b1, b2, b3; } Mac;
 
 uint8_t malstrink_checksum8(const uint8_t *p, size_t n);
@@ -33,6 +38,21 @@ Head malstrink_head(const uint8_t *p, size_t n);
 Parsed malstrink_parse(const uint8_t *p, size_t n);
 Answer malstrink_build(Packet p, const uint8_t *block, size_t bn, const uint8_t *data, size_t dn, Mac mac, uint8_t *out, size_t on);
 Answer malstrink_build_body(Packet p, const uint8_t *block, size_t bn, const uint8_t *data, size_t dn, uint8_t *out, size_t on);
+
+Bytes16 malstrink_aes_encrypt(Bytes16 key, Bytes16 block);
+Bytes16 malstrink_aes_decrypt(Bytes16 key, Bytes16 block);
+Keys malstrink_derive(Bytes16 scbk, Bytes8 rnd_a);
+Bytes16 malstrink_client_cryptogram(Bytes16 s_enc, Bytes8 rnd_a, Bytes8 rnd_b);
+Bytes16 malstrink_server_cryptogram(Bytes16 s_enc, Bytes8 rnd_a, Bytes8 rnd_b);
+Bytes16 malstrink_initial_rmac(Bytes16 s_mac1, Bytes16 s_mac2, Bytes16 server);
+Bytes16 malstrink_diversify_scbk_legacy(Bytes16 mk, Bytes8 cuid);
+Answer malstrink_pad_mac(const uint8_t *data, size_t dn, uint8_t *out, size_t on);
+Answer malstrink_pad_data(const uint8_t *data, size_t dn, uint8_t *out, size_t on);
+Answer malstrink_unpad_data(const uint8_t *p, size_t n);
+Bytes16 malstrink_complement_icv(Bytes16 mac);
+Chain malstrink_cbc_mac(const uint8_t *p, size_t n, Bytes16 icv, Bytes16 s_mac1, Bytes16 s_mac2);
+Ciphered malstrink_encrypt_data(Bytes16 s_enc, Bytes16 iv, const uint8_t *data, size_t dn, uint8_t *out, size_t on);
+Ciphered malstrink_decrypt_data(Bytes16 s_enc, Bytes16 iv, const uint8_t *data, size_t dn, uint8_t *out, size_t on);
 
 static uint8_t *answers;
 static size_t used, held;
@@ -78,6 +98,43 @@ static void build(const uint8_t *in, bool body) {
     free(out);
 }
 
+static Bytes16 get16(const uint8_t *p) { Bytes16 b; memcpy(b.bytes, p, 16); return b; }
+static Bytes8 get8(const uint8_t *p) { Bytes8 b; memcpy(b.bytes, p, 8); return b; }
+static void put16b(Bytes16 b) { put(b.bytes, 16); }
+
+/* 48 bytes in three blocks: what the call does with them is its op's. */
+static void keys(uint8_t op, const uint8_t *in) {
+    Bytes16 k = get16(in), x = get16(in + 16), y = get16(in + 32);
+    switch (op) {
+    case 14: put16b(malstrink_aes_encrypt(k, x)); break;
+    case 15: put16b(malstrink_aes_decrypt(k, x)); break;
+    case 16: { Keys d = malstrink_derive(k, get8(in + 16)); put(d.s_enc, 16); put(d.s_mac1, 16); put(d.s_mac2, 16); break; }
+    case 17: put16b(malstrink_client_cryptogram(k, get8(in + 16), get8(in + 24))); break;
+    case 18: put16b(malstrink_server_cryptogram(k, get8(in + 16), get8(in + 24))); break;
+    case 19: put16b(malstrink_initial_rmac(k, x, y)); break;
+    case 20: put16b(malstrink_diversify_scbk_legacy(k, get8(in + 16))); break;
+    default: put16b(malstrink_complement_icv(k));
+    }
+}
+
+/* Room, key and start value, then the data. */
+static void cipher(uint8_t op, const uint8_t *in, size_t n) {
+    size_t room = get32(in), dn = n - 36;
+    Bytes16 k = get16(in + 4), v = get16(in + 20);
+    uint8_t *out = malloc(room + GUARD);
+    if (!out) exit(3);
+    fill(out, room + GUARD);
+    if (op == 22) put_answer(malstrink_pad_mac(in + 36, dn, out, room));
+    else if (op == 23) put_answer(malstrink_pad_data(in + 36, dn, out, room));
+    else {
+        Ciphered c = op == 26 ? malstrink_encrypt_data(k, v, in + 36, dn, out, room) : malstrink_decrypt_data(k, v, in + 36, dn, out, room);
+        put_answer(c.answer);
+        put64(c.calls);
+    }
+    put(out, room + GUARD);
+    free(out);
+}
+
 static void call(uint8_t op, const uint8_t *in, size_t n) {
     switch (op) {
     case 0: put8(malstrink_checksum8(in, n)); break;
@@ -94,6 +151,10 @@ static void call(uint8_t op, const uint8_t *in, size_t n) {
     case 11: parse(in, n); break;
     case 12: build(in, false); break;
     case 13: build(in, true); break;
+    case 14: case 15: case 16: case 17: case 18: case 19: case 20: case 21: keys(op, in); break;
+    case 22: case 23: case 26: case 27: cipher(op, in, n); break;
+    case 24: put_answer(malstrink_unpad_data(in, n)); break;
+    case 25: { Chain m = malstrink_cbc_mac(in + 48, n - 48, get16(in), get16(in + 16), get16(in + 32)); put(m.full, 16); put64(m.calls); break; }
     default: exit(4);
     }
 }

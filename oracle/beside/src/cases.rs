@@ -3,6 +3,7 @@ use crate::Compare;
 use crate::rust::Ask;
 use crate::wire::*;
 use osdp::packet::{checksum8, crc16};
+use osdp::secure::cipher::encrypt_data;
 
 /// xorshift64*, so that a seed gives the same run everywhere.
 struct Random(u64);
@@ -278,6 +279,59 @@ fn building(c: &mut Compare, r: &mut Random, count: u64) {
     }
 }
 
+/// Paddings of 0 to 70 bytes in every room around what they need, MAC, CBC, keys and cryptograms.
+fn ciphers(c: &mut Compare, r: &mut Random, count: u64) {
+    let around = |n: usize| [n, n + 1, n.saturating_sub(1), 0, n + 16];
+    let ask = |c: &mut Compare, op: u8, room: usize, keys: &[u8], data: &[u8]| {
+        c.ask(op, [&(room as u32).to_le_bytes(), &keys[..32], data].concat());
+    };
+    for n in 0..=70 {
+        for _ in 0..4 {
+            let (keys, data) = (r.bytes(32), r.bytes(n));
+            for room in around(n / 16 * 16 + 16) {
+                for op in [PAD_MAC, PAD_DATA, ENCRYPT, DECRYPT] {
+                    ask(c, op, room, &keys, &data);
+                }
+            }
+            for room in around(n) {
+                for op in [PAD_MAC, DECRYPT] {
+                    ask(c, op, room, &keys, &data);
+                }
+            }
+        }
+    }
+    // everything that padding can look like over a small alphabet
+    for n in 0..=7u32 {
+        for mut k in 0..4usize.pow(n) {
+            let mut s = Vec::new();
+            for _ in 0..n {
+                s.push([0x00, 0x80, 0x41, 0x81][k % 4]);
+                k /= 4;
+            }
+            c.ask(UNPAD, s);
+        }
+    }
+    for _ in 0..count / 60 {
+        let keys = r.bytes(48);
+        c.ask(r.pick(&[AES_ENCRYPT, AES_DECRYPT, DERIVE, CLIENT, SERVER, FIRST, DIVERSIFY, COMPLEMENT]), keys.clone());
+        let n = r.below(100);
+        let data = r.bytes(n);
+        c.ask(CBC_MAC, [&keys[..], &data].concat());
+        ask(c, ENCRYPT, 112, &keys, &data);
+        // good encrypted data, the same with its last block spoiled, and a payload of padding bytes
+        let (k, v) = (keys[..16].try_into().unwrap(), keys[16..32].try_into().unwrap());
+        let text: Vec<u8> = data.iter().map(|b| if r.below(3) == 0 { 0x80 } else { b & 0x80 }).collect();
+        for text in [&data, &text] {
+            let mut hidden = encrypt_data(k, v, text);
+            let room = r.pick(&around(hidden.len()));
+            ask(c, DECRYPT, room, &keys, &hidden);
+            let i = r.below(hidden.len());
+            hidden[i] ^= 1 << r.below(8);
+            ask(c, DECRYPT, hidden.len(), &keys, &hidden);
+        }
+    }
+}
+
 pub fn all(c: &mut Compare, seed: u64, count: u64) {
     let mut r = Random(seed.wrapping_mul(0x9E37_79B9_7F4A_7C15) | 1);
     bytes(c);
@@ -285,4 +339,5 @@ pub fn all(c: &mut Compare, seed: u64, count: u64) {
     sums(c, &mut r, count);
     parsing(c, &mut r, count);
     building(c, &mut r, count);
+    ciphers(c, &mut r, count);
 }

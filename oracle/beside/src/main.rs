@@ -61,7 +61,7 @@ impl Compare {
         if let Some(name) = name {
             *self.intended.entry(name).or_default() += 1;
         }
-        if op > wire::CRC16 {
+        if wire::refuses(op) {
             *self.refused.entry((op, got.first().copied().unwrap_or(255))).or_default() += 1;
         }
         if want != got {

@@ -3,6 +3,7 @@
 use crate::wire::*;
 use osdp::error::{Error, SecureSessionError};
 use osdp::packet::*;
+use osdp::secure::{cipher::*, crypto::*, mac::*, pad::*};
 
 pub const UNDUE_MAC: &str = "a MAC that is not due: 11";
 pub const BLOCK_TOO_LONG: &str = "block data above 253 bytes: 17";
@@ -202,6 +203,77 @@ fn build(ask: &Ask, body: bool) -> Answer {
     }
 }
 
+fn calls() -> u64 {
+    aes::CALLS.load(std::sync::atomic::Ordering::Relaxed)
+}
+
+/// 48 bytes in three blocks.
+fn keys(op: u8, input: &[u8]) -> Answer {
+    let block = |i: usize| -> [u8; 16] { input[i..i + 16].try_into().unwrap() };
+    let eight = |i: usize| -> [u8; 8] { input[i..i + 8].try_into().unwrap() };
+    let k = block(0);
+    let mut o = Out::default();
+    let last = match op {
+        AES_ENCRYPT => aes128_encrypt(&k, &block(16)),
+        AES_DECRYPT => aes128_decrypt(&k, &block(16)),
+        DERIVE => {
+            let keys = SessionKeys::derive(&k, &eight(16));
+            o.bytes(&keys.s_enc).bytes(&keys.s_mac1);
+            keys.s_mac2
+        }
+        CLIENT => client_cryptogram(&k, &eight(16), &eight(24)),
+        SERVER => server_cryptogram(&k, &eight(16), &eight(24)),
+        FIRST => initial_rmac(&k, &block(16), &block(32)),
+        DIVERSIFY => diversify_scbk_legacy(&k, &eight(16)),
+        _ => complement_icv(&k),
+    };
+    o.bytes(&last);
+    (o, None)
+}
+
+/// Room, key and start value, then the data. The Rust grows a vector: no room is the paper's own refusal. A deciphering that is
+/// refused wipes the data's length in the buffer, one that is not leaves zeros behind the payload up to that length.
+fn cipher(op: u8, input: &[u8]) -> Answer {
+    let room = u32::from_le_bytes(input[..4].try_into().unwrap()) as usize;
+    let (k, v) = (input[4..20].try_into().unwrap(), input[20..36].try_into().unwrap());
+    let data = &input[36..];
+    let before = calls();
+    let (answer, written) = match op {
+        PAD_MAC | PAD_DATA => {
+            let mut padded = data.to_vec();
+            if op == PAD_MAC { pad_mac(&mut padded) } else { pad_data(&mut padded) }
+            ((0, padded.len(), 0), padded)
+        }
+        ENCRYPT => {
+            let hidden = encrypt_data(k, v, data);
+            ((0, hidden.len(), 0), hidden)
+        }
+        _ => match decrypt_data(k, v, data) {
+            Ok(mut text) => {
+                let n = text.len();
+                text.resize(data.len(), 0);
+                ((0, n, 0), text)
+            }
+            Err(e) => (number(&e.into()), vec![0; data.len()]),
+        },
+    };
+    let made = (calls() - before) as usize;
+    let counted = |o: Answer, n: usize| {
+        let mut all = Out::default();
+        all.bytes(&o.0.0[..17]);
+        if op >= ENCRYPT {
+            all.u64(n);
+        }
+        all.bytes(&o.0.0[17..]);
+        (all, o.1)
+    };
+    if room < written.len() {
+        counted(into_buffer(room, (18, written.len(), room), &[], Some(NO_ROOM)), 0)
+    } else {
+        counted(into_buffer(room, answer, &written, None), made)
+    }
+}
+
 /// The oracle's answer to a request.
 pub fn call(op: u8, input: &[u8]) -> Answer {
     let mut o = Out::default();
@@ -242,6 +314,15 @@ pub fn call(op: u8, input: &[u8]) -> Answer {
         PARSE => return parse(input),
         BUILD => return build(&Ask::read(input), false),
         BUILD_BODY => return build(&Ask::read(input), true),
+        AES_ENCRYPT..=COMPLEMENT => return keys(op, input),
+        PAD_MAC | PAD_DATA | ENCRYPT | DECRYPT => return cipher(op, input),
+        UNPAD => return plain(unpad_data(input).map(|s| s.len()).map_err(Error::from)),
+        CBC_MAC => {
+            let block = |i: usize| -> [u8; 16] { input[i..i + 16].try_into().unwrap() };
+            let before = calls();
+            let full = cbc_mac(&input[48..], &block(0), &block(16), &block(32));
+            o.bytes(&full).u64((calls() - before) as usize)
+        }
         _ => unreachable!(),
     };
     (o, None)

@@ -22,9 +22,31 @@ pub const HEAD: u8 = 10;
 pub const PARSE: u8 = 11;
 pub const BUILD: u8 = 12;
 pub const BUILD_BODY: u8 = 13;
-pub const NAMES: [&str; 14] = [
+pub const AES_ENCRYPT: u8 = 14;
+pub const AES_DECRYPT: u8 = 15;
+pub const DERIVE: u8 = 16;
+pub const CLIENT: u8 = 17;
+pub const SERVER: u8 = 18;
+pub const FIRST: u8 = 19;
+pub const DIVERSIFY: u8 = 20;
+pub const COMPLEMENT: u8 = 21;
+pub const PAD_MAC: u8 = 22;
+pub const PAD_DATA: u8 = 23;
+pub const UNPAD: u8 = 24;
+pub const CBC_MAC: u8 = 25;
+pub const ENCRYPT: u8 = 26;
+pub const DECRYPT: u8 = 27;
+
+/// Whether an answer starts with a refusal's number.
+pub fn refuses(op: u8) -> bool {
+    !matches!(op, CHECKSUM8 | CRC16 | AES_ENCRYPT..=COMPLEMENT | CBC_MAC)
+}
+
+pub const NAMES: [&str; 28] = [
     "checksum8", "crc16", "address pd", "address reply", "sqn new", "sqn next", "control decode", "control encode",
-    "scs type", "block", "head", "parse", "build", "build body",
+    "scs type", "block", "head", "parse", "build", "build body", "aes encrypt", "aes decrypt", "derive", "client cryptogram",
+    "server cryptogram", "first chain value", "diversify scbk", "complement icv", "pad mac", "pad data", "unpad data", "cbc mac",
+    "encrypt data", "decrypt data",
 ];
 
 /// Bytes of an answer, put one after the other.
