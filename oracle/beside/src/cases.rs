@@ -313,6 +313,7 @@ fn ciphers(c: &mut Compare, r: &mut Random, count: u64) {
     }
     for _ in 0..count / 60 {
         let keys = r.bytes(48);
+        c.ask(r.pick(&[AES_ENCRYPT, AES_DECRYPT]), keys.clone());
         c.ask(r.pick(&[AES_ENCRYPT, AES_DECRYPT, DERIVE, CLIENT, SERVER, FIRST, DIVERSIFY, COMPLEMENT]), keys.clone());
         let n = r.below(100);
         let data = r.bytes(n);

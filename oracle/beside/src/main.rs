@@ -1,6 +1,7 @@
 //! beside SEED COUNT COMMAND..: asks the Rust and the proved side the same, and tells where they differ.
 mod cases;
 mod rust;
+mod second;
 mod wire;
 
 use std::collections::BTreeMap;

@@ -1,5 +1,6 @@
 //! The oracle's answers, in the layout of the proved side's. Where the paper asks for another answer than the Rust's, the answer
 //! is the paper's and comes with the difference's name (docs/DIFFERENCES.md).
+use crate::second;
 use crate::wire::*;
 use osdp::error::{Error, SecureSessionError};
 use osdp::packet::*;
@@ -214,8 +215,16 @@ fn keys(op: u8, input: &[u8]) -> Answer {
     let k = block(0);
     let mut o = Out::default();
     let last = match op {
-        AES_ENCRYPT => aes128_encrypt(&k, &block(16)),
-        AES_DECRYPT => aes128_decrypt(&k, &block(16)),
+        AES_ENCRYPT => {
+            let b = aes128_encrypt(&k, &block(16));
+            assert_eq!(b, second::encrypt(&k, &block(16)), "the Rust's AES is not OpenSSL's");
+            b
+        }
+        AES_DECRYPT => {
+            let b = aes128_decrypt(&k, &block(16));
+            assert_eq!(b, second::decrypt(&k, &block(16)), "the Rust's AES is not OpenSSL's");
+            b
+        }
         DERIVE => {
             let keys = SessionKeys::derive(&k, &eight(16));
             o.bytes(&keys.s_enc).bytes(&keys.s_mac1);
