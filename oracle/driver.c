@@ -1,58 +1,10 @@
 /* The proved side of the comparison: reads batches of requests, calls the archive, writes the answers.
    A batch is its length (u32) and requests; a request is an op (u8), the length of its input (u32) and the input.
    Answers are laid out as oracle/beside/src/wire.rs says. All numbers have their low byte first. */
-#include <stdbool.h>
-#include <stddef.h>
-#include <stdint.h>
+#include "../include/malstrink.h"
 #include <stdio.h>
 #include <stdlib.h>
 #include <string.h>
-
-typedef struct { uint8_t refusal; size_t a, b; } Answer;
-typedef struct { Answer answer; uint8_t sqn; bool crc, block; } Control;
-typedef struct { Answer answer; uint8_t ty, data_len; } Block;
-typedef struct { Answer answer; uint8_t addr; size_t len; uint8_t sqn; bool crc, block; } Head;
-typedef struct {
-    Answer answer; uint8_t addr, sqn; bool crc, block; uint8_t block_type; size_t block_start, block_len; uint8_t code;
-    size_t data_start, data_len, mac_start; bool trailer_is_crc; uint16_t trailer; size_t len;
-} Parsed;
-typedef struct { uint8_t addr, sqn; bool crc, block; uint8_t block_type, code; } Packet;
-typedef struct { uint8_t bytes[16]; } Bytes16;
-typedef struct { uint8_t bytes[8]; } Bytes8;
-typedef struct { uint8_t s_enc[16], s_mac1[16], s_mac2[16]; } Keys;
-typedef struct { Answer answer; size_t calls; } Ciphered;
-typedef struct { uint8_t full[16]; size_t calls; } Chain;
-typedef struct { bool given; uint8_t b0, b1, b2, b3; } Mac;
-
-uint8_t malstrink_checksum8(const uint8_t *p, size_t n);
-uint16_t malstrink_crc16(const uint8_t *p, size_t n);
-Answer malstrink_address_pd(uint8_t addr);
-Answer malstrink_address_reply(uint8_t addr);
-Answer malstrink_sqn_new(uint8_t n);
-Answer malstrink_sqn_next(uint8_t n);
-Control malstrink_control_decode(uint8_t byte);
-Answer malstrink_control_encode(uint8_t sqn, bool crc, bool block);
-Answer malstrink_scs_type(uint8_t byte);
-Block malstrink_block(const uint8_t *p, size_t n);
-Head malstrink_head(const uint8_t *p, size_t n);
-Parsed malstrink_parse(const uint8_t *p, size_t n);
-Answer malstrink_build(Packet p, const uint8_t *block, size_t bn, const uint8_t *data, size_t dn, Mac mac, uint8_t *out, size_t on);
-Answer malstrink_build_body(Packet p, const uint8_t *block, size_t bn, const uint8_t *data, size_t dn, uint8_t *out, size_t on);
-
-Bytes16 malstrink_aes_encrypt(Bytes16 key, Bytes16 block);
-Bytes16 malstrink_aes_decrypt(Bytes16 key, Bytes16 block);
-Keys malstrink_derive(Bytes16 scbk, Bytes8 rnd_a);
-Bytes16 malstrink_client_cryptogram(Bytes16 s_enc, Bytes8 rnd_a, Bytes8 rnd_b);
-Bytes16 malstrink_server_cryptogram(Bytes16 s_enc, Bytes8 rnd_a, Bytes8 rnd_b);
-Bytes16 malstrink_initial_rmac(Bytes16 s_mac1, Bytes16 s_mac2, Bytes16 server);
-Bytes16 malstrink_diversify_scbk_legacy(Bytes16 mk, Bytes8 cuid);
-Answer malstrink_pad_mac(const uint8_t *data, size_t dn, uint8_t *out, size_t on);
-Answer malstrink_pad_data(const uint8_t *data, size_t dn, uint8_t *out, size_t on);
-Answer malstrink_unpad_data(const uint8_t *p, size_t n);
-Bytes16 malstrink_complement_icv(Bytes16 mac);
-Chain malstrink_cbc_mac(const uint8_t *p, size_t n, Bytes16 icv, Bytes16 s_mac1, Bytes16 s_mac2);
-Ciphered malstrink_encrypt_data(Bytes16 s_enc, Bytes16 iv, const uint8_t *data, size_t dn, uint8_t *out, size_t on);
-Ciphered malstrink_decrypt_data(Bytes16 s_enc, Bytes16 iv, const uint8_t *data, size_t dn, uint8_t *out, size_t on);
 
 static uint8_t *answers;
 static size_t used, held;
@@ -69,7 +21,7 @@ static void put(const void *p, size_t n) {
 static void put8(uint8_t x) { put(&x, 1); }
 static void put16(uint16_t x) { put8((uint8_t)x); put8((uint8_t)(x >> 8)); }
 static void put64(uint64_t x) { for (int i = 0; i < 8; i++) put8((uint8_t)(x >> (8 * i))); }
-static void put_answer(Answer a) { put8(a.refusal); put64(a.a); put64(a.b); }
+static void put_answer(MalstrinkAnswer a) { put8(a.refusal); put64(a.a); put64(a.b); }
 static uint32_t get32(const uint8_t *p) { return p[0] | p[1] << 8 | p[2] << 16 | (uint32_t)p[3] << 24; }
 
 /* What a lent buffer holds before the call; GUARD bytes more follow it, which no call may touch. */
@@ -77,7 +29,7 @@ enum { GUARD = 16 };
 static void fill(uint8_t *out, size_t n) { for (size_t i = 0; i < n; i++) out[i] = (uint8_t)(0xA5 ^ (i * 7)); }
 
 static void parse(const uint8_t *in, size_t n) {
-    Parsed p = malstrink_parse(in, n);
+    MalstrinkParsed p = malstrink_parse(in, n);
     put_answer(p.answer);
     put8(p.addr); put8(p.sqn); put8(p.crc); put8(p.block); put8(p.block_type);
     put64(p.block_start); put64(p.block_len); put8(p.code);
@@ -86,8 +38,8 @@ static void parse(const uint8_t *in, size_t n) {
 }
 
 static void build(const uint8_t *in, bool body) {
-    Packet p = { in[0], in[1], in[2], in[3], in[4], in[5] };
-    Mac mac = { in[6], in[7], in[8], in[9], in[10] };
+    MalstrinkPacket p = { in[0], in[1], in[2], in[3], in[4], in[5] };
+    MalstrinkMac mac = { in[6], in[7], in[8], in[9], in[10] };
     size_t bn = get32(in + 11), dn = get32(in + 15), room = get32(in + 19);
     const uint8_t *block = in + 23, *data = block + bn;
     uint8_t *out = malloc(room + GUARD);
@@ -98,17 +50,17 @@ static void build(const uint8_t *in, bool body) {
     free(out);
 }
 
-static Bytes16 get16(const uint8_t *p) { Bytes16 b; memcpy(b.bytes, p, 16); return b; }
-static Bytes8 get8(const uint8_t *p) { Bytes8 b; memcpy(b.bytes, p, 8); return b; }
-static void put16b(Bytes16 b) { put(b.bytes, 16); }
+static MalstrinkBytes16 get16(const uint8_t *p) { MalstrinkBytes16 b; memcpy(b.bytes, p, 16); return b; }
+static MalstrinkBytes8 get8(const uint8_t *p) { MalstrinkBytes8 b; memcpy(b.bytes, p, 8); return b; }
+static void put16b(MalstrinkBytes16 b) { put(b.bytes, 16); }
 
 /* 48 bytes in three blocks: what the call does with them is its op's. */
 static void keys(uint8_t op, const uint8_t *in) {
-    Bytes16 k = get16(in), x = get16(in + 16), y = get16(in + 32);
+    MalstrinkBytes16 k = get16(in), x = get16(in + 16), y = get16(in + 32);
     switch (op) {
     case 14: put16b(malstrink_aes_encrypt(k, x)); break;
     case 15: put16b(malstrink_aes_decrypt(k, x)); break;
-    case 16: { Keys d = malstrink_derive(k, get8(in + 16)); put(d.s_enc, 16); put(d.s_mac1, 16); put(d.s_mac2, 16); break; }
+    case 16: { MalstrinkKeys d = malstrink_derive(k, get8(in + 16)); put(d.s_enc, 16); put(d.s_mac1, 16); put(d.s_mac2, 16); break; }
     case 17: put16b(malstrink_client_cryptogram(k, get8(in + 16), get8(in + 24))); break;
     case 18: put16b(malstrink_server_cryptogram(k, get8(in + 16), get8(in + 24))); break;
     case 19: put16b(malstrink_initial_rmac(k, x, y)); break;
@@ -120,14 +72,14 @@ static void keys(uint8_t op, const uint8_t *in) {
 /* Room, key and start value, then the data. */
 static void cipher(uint8_t op, const uint8_t *in, size_t n) {
     size_t room = get32(in), dn = n - 36;
-    Bytes16 k = get16(in + 4), v = get16(in + 20);
+    MalstrinkBytes16 k = get16(in + 4), v = get16(in + 20);
     uint8_t *out = malloc(room + GUARD);
     if (!out) exit(3);
     fill(out, room + GUARD);
     if (op == 22) put_answer(malstrink_pad_mac(in + 36, dn, out, room));
     else if (op == 23) put_answer(malstrink_pad_data(in + 36, dn, out, room));
     else {
-        Ciphered c = op == 26 ? malstrink_encrypt_data(k, v, in + 36, dn, out, room) : malstrink_decrypt_data(k, v, in + 36, dn, out, room);
+        MalstrinkCiphered c = op == 26 ? malstrink_encrypt_data(k, v, in + 36, dn, out, room) : malstrink_decrypt_data(k, v, in + 36, dn, out, room);
         put_answer(c.answer);
         put64(c.calls);
     }
@@ -143,18 +95,18 @@ static void call(uint8_t op, const uint8_t *in, size_t n) {
     case 3: put_answer(malstrink_address_reply(in[0])); break;
     case 4: put_answer(malstrink_sqn_new(in[0])); break;
     case 5: put_answer(malstrink_sqn_next(in[0])); break;
-    case 6: { Control c = malstrink_control_decode(in[0]); put_answer(c.answer); put8(c.sqn); put8(c.crc); put8(c.block); break; }
+    case 6: { MalstrinkControl c = malstrink_control_decode(in[0]); put_answer(c.answer); put8(c.sqn); put8(c.crc); put8(c.block); break; }
     case 7: put_answer(malstrink_control_encode(in[0], in[1], in[2])); break;
     case 8: put_answer(malstrink_scs_type(in[0])); break;
-    case 9: { Block b = malstrink_block(in, n); put_answer(b.answer); put8(b.ty); put8(b.data_len); break; }
-    case 10: { Head h = malstrink_head(in, n); put_answer(h.answer); put8(h.addr); put64(h.len); put8(h.sqn); put8(h.crc); put8(h.block); break; }
+    case 9: { MalstrinkBlock b = malstrink_block(in, n); put_answer(b.answer); put8(b.ty); put8(b.data_len); break; }
+    case 10: { MalstrinkHead h = malstrink_head(in, n); put_answer(h.answer); put8(h.addr); put64(h.len); put8(h.sqn); put8(h.crc); put8(h.block); break; }
     case 11: parse(in, n); break;
     case 12: build(in, false); break;
     case 13: build(in, true); break;
     case 14: case 15: case 16: case 17: case 18: case 19: case 20: case 21: keys(op, in); break;
     case 22: case 23: case 26: case 27: cipher(op, in, n); break;
     case 24: put_answer(malstrink_unpad_data(in, n)); break;
-    case 25: { Chain m = malstrink_cbc_mac(in + 48, n - 48, get16(in), get16(in + 16), get16(in + 32)); put(m.full, 16); put64(m.calls); break; }
+    case 25: { MalstrinkChain m = malstrink_cbc_mac(in + 48, n - 48, get16(in), get16(in + 16), get16(in + 32)); put(m.full, 16); put64(m.calls); break; }
     default: exit(4);
     }
 }
