@@ -1,0 +1,55 @@
+-- `malstrink_build_body` meets its contract: the packet is made, then built up to its data (proofs/Args).
+-- Assumes nothing.
+use mathlib.Core.Path.{sym, ap, _∙_}
+use Prim.Native.Nat.{ℕ}
+use mathlib.Core.List.{List}
+use lib.ListN.{length}
+use Rattle.laws.specs.Answer.{Answer}
+use Rattle.refusal.specs.Paper.{numberOf, valuesOf}
+use Rattle.packet_build.specs.declared.codec.GivenMac.{GivenMac}
+use Rattle.packet_build.specs.Build.{partsOf, sized, written}
+use Rattle.ffi.specs.Answers.{cAnswer}
+use Rattle.ffi.specs.Building.{askedParts}
+use Rattle.ffi.specs.declared.build.Asked.{Asked}
+use Rattle.ffi.proofs.Args.{body-asked, body-not-asked}
+use borrow.Author.Needs.{needs}
+use Rattle.ffi.proofs.build.malstrink_build_body.Statement.{statement}
+use Rattle.ffi.proofs.build.malstrink_build_body.Tie as tie
+
+returns : tie.Need-returns
+returns c =
+    let a = c .before .before .before .before .before .before .before .before .before .before .before .before .args in
+    let l = a .block .now in
+    let d = a .«data» .now in
+    let o = a .out .now in
+    let w = c .before .before .before .before .before .before .w .given in
+    let e = sym (c .before .before .before .before .before .before .before .before .ask .ensures l d GivenMac.Absent) ∙ ap (λ (x : Asked). askedParts x l d GivenMac.Absent) (w .1) in
+    let f = sym (body-asked (a .p) l d (length o) (partsOf (w .0 .0) l d GivenMac.Absent) e) in
+    let g = c .before .before .before .build-body .ensures in
+    (c .built-c .ensures ∙ ap cAnswer (g .0 ∙ ap sized f), g .1 ∙ ap (λ (x : Answer (List ℕ)). written x o) f)
+
+returns-2 : tie.Need-returns-2
+returns-2 c =
+    let a = c .before .before .before .before .before .before .before .before .args in
+    let l = a .block .now in
+    let d = a .«data» .now in
+    let o = a .out .now in
+    let w = c .before .before .e .given in
+    let r = w .0 .0 in
+    let e = sym (c .before .before .before .before .ask .ensures l d GivenMac.Absent) ∙ ap (λ (x : Asked). askedParts x l d GivenMac.Absent) (w .1) in
+    let f = sym (body-not-asked (a .p) l d (length o) (numberOf r) (valuesOf r) e) in
+    (c .refused .ensures ∙ ap cAnswer (ap sized f), ap (λ (x : Answer (List ℕ)). written x o) f)
+
+pub malstrink-build-body-spec : {M : Type 1} → statement M
+malstrink-build-body-spec =
+    tie.close
+    (tie.spec
+    (λ c κs. search needs)
+    (λ c. search needs)
+    (λ c κs. search needs)
+    (λ c κs. search needs)
+    (λ c. search needs)
+    (λ c κs. search needs)
+    (λ c. search needs)
+    returns
+    returns-2)

@@ -1,0 +1,34 @@
+-- `parsed_c` meets its contract, field by field.
+-- Assumes nothing.
+use mathlib.Core.Path.{sym, ap, _∙_}
+use Rattle.ffi.specs.Parsing.{cParsed}
+use Rattle.packet_parse.specs.Frame.{parsed}
+use borrow.Author.Needs.{needs}
+use Rattle.ffi.proofs.parse.parsed_c.Statement.{statement}
+use Rattle.ffi.proofs.parse.parsed_c.Tie as tie
+
+returns : tie.Need-returns
+returns c = rw (c .trailer-value .ensures, c .before .trailer-is-crc .ensures, c .before .before .mac-start .ensures, c .before .before .before .block-len .ensures, c .before .before .before .before .block-start .ensures, c .before .before .before .before .before .block-type .ensures, c .before .before .before .before .before .before .value .ensures, c .before .before .before .before .before .before .before .as-byte .ensures, c .before .before .before .before .before .before .before .before .given .ensures) (sym (ap cParsed (ap parsed (c .before .before .before .before .before .before .before .before .before .before .a .given .1))))
+
+returns-2 : tie.Need-returns-2
+returns-2 c = c .nothing-parsed .ensures ∙ rw (c .before .refused .ensures) (sym (ap cParsed (ap parsed (c .before .before .before .a2 .given .1))))
+
+pub parsed-c-spec : {M : Type 1} → statement M
+parsed-c-spec =
+    tie.close
+    (tie.spec
+    (λ c. search needs)
+    (λ c κs. search needs)
+    (λ c κs. search needs)
+    (λ c κs. search needs)
+    (λ c κs. search needs)
+    (λ c κs. search needs)
+    (λ c κs. search needs)
+    (λ c κs. search needs)
+    (λ c κs. search needs)
+    (λ c κs. search needs)
+    (λ c. search needs)
+    (λ c κs. search needs)
+    (λ c κs. search needs)
+    returns
+    returns-2)

@@ -1,0 +1,37 @@
+-- An answer as C has it: 0 and what was asked for, or the refusal's number and what it carries.
+-- Assumes nothing.
+use Prim.Native.Nat.{ℕ}
+use mathlib.Core.Bool.{false}
+use mathlib.Core.List.{List, [], _∷_}
+use Rattle.laws.specs.Answer.{Answer, Answer.given, Answer.refused}
+use Rattle.refusal.specs.declared.Refusal.{Refusal}
+use Rattle.refusal.specs.Paper.{numberOf, valuesOf}
+use Rattle.packet_head.specs.Header.{Control}
+use Rattle.ffi.specs.declared.answer.CAnswer.{CAnswer}
+use Rattle.ffi.specs.declared.head.CControl.{CControl}
+
+-- a refusal carries at most two values; 0 stands for one that it does not carry
+abbrev pub valueA : List ℕ → ℕ
+valueA [] = 0
+valueA (a ∷ l) = a
+
+abbrev pub valueB : List ℕ → ℕ
+valueB [] = 0
+valueB (a ∷ l) = valueA l
+
+abbrev pub cRefused : ℕ → List ℕ → CAnswer
+cRefused n vs = record { refusal = n; a = valueA vs; b = valueB vs }
+
+abbrev pub cRefusal : Refusal → CAnswer
+cRefusal e = cRefused (numberOf e) (valuesOf e)
+
+abbrev pub cGiven : ℕ → CAnswer
+cGiven n = record { refusal = 0; a = n; b = 0 }
+
+abbrev pub cAnswer : Answer ℕ → CAnswer
+cAnswer (given n) = cGiven n
+cAnswer (refused n vs) = cRefused n vs
+
+abbrev pub cControl : Answer Control → CControl
+cControl (given c) = record { answer = cGiven 0; sqn = c .0; crc = c .1; block = c .2 }
+cControl (refused n vs) = record { answer = cRefused n vs; sqn = 0; crc = false; block = false }

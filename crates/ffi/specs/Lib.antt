@@ -1,0 +1,4 @@
+pub mod Answers
+pub mod Parsing
+pub mod Building
+pub mod Ciphers

@@ -1,0 +1,133 @@
+// Building a frame.
+ghost use mathlib.Core.Path.{_≡_};
+ghost use lib.ListN.{length};
+ghost use Rattle.packet_build.specs.Build.{built, sized, written, macBytes};
+ghost use Rattle.ffi.specs.Answers.{cAnswer};
+ghost use Rattle.ffi.specs.Building.{macArg, buildArg, bodyArg, KindMeets, AskedMeets};
+use super::answer::CAnswer;
+use super::answer::given;
+use super::answer::refused;
+use packet_build::BuildBlock;
+use packet_build::Built;
+use packet_build::GivenMac;
+use packet_build::PacketBuilder;
+use packet_head::Address;
+use packet_head::ControlByte;
+use packet_head::ScsAnswer;
+use packet_head::ScsType;
+use packet_head::Sqn;
+use packet_head::SqnAnswer;
+use refusal::Refusal;
+
+// block is the control byte's flag; block_type is 0 where there is no block.
+#[repr(C)]
+pub struct CPacket {
+    pub addr: u8,
+    pub sqn: u8,
+    pub crc: bool,
+    pub block: bool,
+    pub block_type: u8,
+    pub code: u8,
+}
+
+#[repr(C)]
+pub struct CMac {
+    pub given: bool,
+    pub b0: u8,
+    pub b1: u8,
+    pub b2: u8,
+    pub b3: u8,
+}
+
+pub(crate) enum Kind {
+    Good(BuildBlock),
+    Refused(Refusal),
+}
+
+pub(crate) enum Asked {
+    Good(PacketBuilder),
+    Refused(Refusal),
+}
+
+fn kind_of(ty: u8) -> Kind
+    ensures { λ r. ⌜ KindMeets r ty ⌝ }
+{
+    if ty == 0 {
+        return Kind::Good(BuildBlock::Absent);
+    }
+    match ScsType::from_byte(ty) {
+        ScsAnswer::Good(t) => Kind::Good(BuildBlock::Of(t)),
+        ScsAnswer::Refused(e) => Kind::Refused(e),
+    }
+}
+
+fn ask(p: CPacket) -> Asked
+    ensures { λ r. ⌜ AskedMeets r p ⌝ }
+{
+    match Sqn::new(p.sqn) {
+        SqnAnswer::Good(sqn) => match kind_of(p.block_type) {
+            Kind::Good(block) => Asked::Good(PacketBuilder {
+                addr: Address::from_raw(p.addr),
+                ctrl: ControlByte::new(sqn, p.crc, p.block),
+                block,
+                code: p.code,
+            }),
+            Kind::Refused(e) => Asked::Refused(e),
+        },
+        SqnAnswer::Refused(e) => Asked::Refused(e),
+    }
+}
+
+fn mac_of(m: CMac) -> GivenMac
+    ensures { λ r. ⌜ macBytes r ≡ macArg m ⌝ }
+{
+    if m.given {
+        GivenMac::Is(m.b0, m.b1, m.b2, m.b3)
+    } else {
+        GivenMac::Absent
+    }
+}
+
+fn built_c(b: Built) -> CAnswer
+    ensures { λ r. ⌜ r ≡ cAnswer (built b) ⌝ }
+{
+    match b {
+        Built::Done(n) => given(n),
+        Built::Refused(e) => refused(e),
+    }
+}
+
+// The frame into out; the answer is how many bytes it has.
+#[no_mangle]
+pub extern "C" fn malstrink_build(
+    p: CPacket,
+    block: &[u8],
+    data: &[u8],
+    mac: CMac,
+    out: &mut [u8],
+) -> CAnswer
+    ensures { λ r. ⌜ r ≡ cAnswer (sized (buildArg p (now (block .entry)) (now («data» .entry)) (macArg mac) (length (now (out .entry))))) ⌝ }
+    ensures { λ _. ⌜ now (out .exit) ≡ written (buildArg p (now (block .entry)) (now («data» .entry)) (macArg mac) (length (now (out .entry)))) (now (out .entry)) ⌝ }
+{
+    match ask(p) {
+        Asked::Good(w) => built_c(packet_build::build(w, block, data, mac_of(mac), out)),
+        Asked::Refused(e) => refused(e),
+    }
+}
+
+// What a MAC is worked out over, from 53 to the end of data, into out.
+#[no_mangle]
+pub extern "C" fn malstrink_build_body(
+    p: CPacket,
+    block: &[u8],
+    data: &[u8],
+    out: &mut [u8],
+) -> CAnswer
+    ensures { λ r. ⌜ r ≡ cAnswer (sized (bodyArg p (now (block .entry)) (now («data» .entry)) (length (now (out .entry))))) ⌝ }
+    ensures { λ _. ⌜ now (out .exit) ≡ written (bodyArg p (now (block .entry)) (now («data» .entry)) (length (now (out .entry)))) (now (out .entry)) ⌝ }
+{
+    match ask(p) {
+        Asked::Good(w) => built_c(packet_build::build_body(w, block, data, out)),
+        Asked::Refused(e) => refused(e),
+    }
+}

@@ -1,0 +1,128 @@
+// Padding, the chain MAC, and CBC into a buffer that the caller lends.
+ghost use mathlib.Core.Path.{_≡_};
+ghost use Rattle.laws.specs.Bytes.{compl};
+ghost use Rattle.secure_cipher.specs.Pad.{padMac, padData, unpad, fits, after, lengthAnswer};
+ghost use Rattle.secure_cipher.specs.Cbc.{encryptOf, decryptOf};
+ghost use Rattle.secure_cipher.specs.Mac.{macOf};
+ghost use Rattle.ffi.specs.Answers.{cAnswer};
+ghost use Rattle.ffi.specs.Ciphers.{cCiphered, cDone, cChain};
+use super::answer::CAnswer;
+use super::answer::given;
+use super::answer::refused;
+use super::keys::Bytes16;
+use secure_cipher::Ciphered;
+use secure_cipher::LengthAnswer;
+
+// How many bytes, and how often the cipher was called.
+#[repr(C)]
+pub struct CCiphered {
+    pub answer: CAnswer,
+    pub calls: usize,
+}
+
+#[repr(C)]
+pub struct CChain {
+    pub full: [u8; 16],
+    pub calls: usize,
+}
+
+fn length_c(a: LengthAnswer) -> CAnswer
+    ensures { λ r. ⌜ r ≡ cAnswer (lengthAnswer a) ⌝ }
+{
+    match a {
+        LengthAnswer::Of(n) => given(n),
+        LengthAnswer::Refused(e) => refused(e),
+    }
+}
+
+fn ciphered_c(c: Ciphered) -> CCiphered
+    ensures { λ r. ⌜ r ≡ cCiphered c ⌝ }
+{
+    let a = c.answer;
+    CCiphered {
+        answer: length_c(a),
+        calls: c.calls,
+    }
+}
+
+#[no_mangle]
+pub extern "C" fn malstrink_pad_mac(data: &[u8], out: &mut [u8]) -> CAnswer
+    ensures { λ r. ⌜ r ≡ cAnswer (fits (padMac (now («data» .entry))) (now (out .entry))) ⌝ }
+    ensures { λ _. ⌜ now (out .exit) ≡ after (fits (padMac (now («data» .entry))) (now (out .entry))) (padMac (now («data» .entry))) (now (out .entry)) ⌝ }
+{
+    length_c(secure_cipher::pad_mac(data, out))
+}
+
+#[no_mangle]
+pub extern "C" fn malstrink_pad_data(data: &[u8], out: &mut [u8]) -> CAnswer
+    ensures { λ r. ⌜ r ≡ cAnswer (fits (padData (now («data» .entry))) (now (out .entry))) ⌝ }
+    ensures { λ _. ⌜ now (out .exit) ≡ after (fits (padData (now («data» .entry))) (now (out .entry))) (padData (now («data» .entry))) (now (out .entry)) ⌝ }
+{
+    length_c(secure_cipher::pad_data(data, out))
+}
+
+#[no_mangle]
+pub extern "C" fn malstrink_unpad_data(bytes: &[u8]) -> CAnswer
+    ensures { λ r. ⌜ r ≡ cAnswer (unpad (now (bytes .entry))) ⌝ }
+{
+    length_c(secure_cipher::unpad_data(bytes))
+}
+
+#[no_mangle]
+pub extern "C" fn malstrink_complement_icv(mac: Bytes16) -> Bytes16
+    ensures { λ r. ⌜ r .bytes ≡ compl (mac .bytes) ⌝ }
+{
+    let m = mac.bytes;
+    let c = secure_cipher::complement_icv(m);
+    Bytes16 { bytes: c }
+}
+
+#[no_mangle]
+pub extern "C" fn malstrink_cbc_mac(
+    input: &[u8],
+    icv: Bytes16,
+    s_mac1: Bytes16,
+    s_mac2: Bytes16,
+) -> CChain
+    ensures { λ r. ⌜ r ≡ cChain (macOf («s_mac1» .bytes) («s_mac2» .bytes) (icv .bytes) (now (input .entry))) ⌝ }
+{
+    let v = icv.bytes;
+    let k1 = s_mac1.bytes;
+    let k2 = s_mac2.bytes;
+    let m = secure_cipher::cbc_mac(input, v, k1, k2);
+    let full = m.full;
+    CChain {
+        full: full,
+        calls: m.calls,
+    }
+}
+
+#[no_mangle]
+pub extern "C" fn malstrink_encrypt_data(
+    s_enc: Bytes16,
+    iv: Bytes16,
+    data: &[u8],
+    out: &mut [u8],
+) -> CCiphered
+    ensures { λ r. ⌜ r ≡ cDone (encryptOf («s_enc» .bytes) (iv .bytes) (now («data» .entry)) (now (out .entry))) ⌝ }
+    ensures { λ _. ⌜ now (out .exit) ≡ encryptOf («s_enc» .bytes) (iv .bytes) (now («data» .entry)) (now (out .entry)) .out ⌝ }
+{
+    let k = s_enc.bytes;
+    let v = iv.bytes;
+    ciphered_c(secure_cipher::encrypt_data(k, v, data, out))
+}
+
+#[no_mangle]
+pub extern "C" fn malstrink_decrypt_data(
+    s_enc: Bytes16,
+    iv: Bytes16,
+    data: &[u8],
+    out: &mut [u8],
+) -> CCiphered
+    ensures { λ r. ⌜ r ≡ cDone (decryptOf («s_enc» .bytes) (iv .bytes) (now («data» .entry)) (now (out .entry))) ⌝ }
+    ensures { λ _. ⌜ now (out .exit) ≡ decryptOf («s_enc» .bytes) (iv .bytes) (now («data» .entry)) (now (out .entry)) .out ⌝ }
+{
+    let k = s_enc.bytes;
+    let v = iv.bytes;
+    ciphered_c(secure_cipher::decrypt_data(k, v, data, out))
+}

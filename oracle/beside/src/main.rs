@@ -1,0 +1,110 @@
+//! beside SEED COUNT COMMAND..: asks the Rust and the proved side the same, and tells where they differ.
+mod cases;
+mod rust;
+mod second;
+mod wire;
+
+use std::collections::BTreeMap;
+use wire::{NAMES, Ours};
+
+/// Sends requests in batches and compares what comes back.
+pub struct Compare {
+    ours: Ours,
+    batch: Vec<u8>,
+    asked: Vec<(u8, Vec<u8>)>,
+    /// How many comparisons each call had, and how often each intended difference was seen.
+    calls: [u64; NAMES.len()],
+    intended: BTreeMap<&'static str, u64>,
+    refused: BTreeMap<(u8, u8), u64>,
+    wrong: u64,
+    smallest: Option<(u8, Vec<u8>, Vec<u8>, Vec<u8>)>,
+}
+
+const BATCH: usize = 1 << 20;
+
+impl Compare {
+    fn new(ours: Ours) -> Self {
+        let (calls, intended, refused) = ([0; NAMES.len()], BTreeMap::new(), BTreeMap::new());
+        Self { ours, batch: Vec::new(), asked: Vec::new(), calls, intended, refused, wrong: 0, smallest: None }
+    }
+
+    pub fn ask(&mut self, op: u8, input: Vec<u8>) {
+        self.batch.push(op);
+        self.batch.extend_from_slice(&(input.len() as u32).to_le_bytes());
+        self.batch.extend_from_slice(&input);
+        self.asked.push((op, input));
+        if self.batch.len() >= BATCH {
+            self.flush();
+        }
+    }
+
+    /// A batch is with the proved side while the oracle answers it.
+    pub fn flush(&mut self) {
+        if self.asked.is_empty() {
+            return;
+        }
+        self.ours.send(&self.batch);
+        let asked = std::mem::take(&mut self.asked);
+        let want: Vec<_> = asked.iter().map(|(op, input)| rust::call(*op, input)).collect();
+        let got = self.ours.receive();
+        let mut at = 0;
+        for ((op, input), (want, name)) in asked.into_iter().zip(want) {
+            let n = u32::from_le_bytes(got[at..at + 4].try_into().unwrap()) as usize;
+            self.compare(op, input, &want.0, &got[at + 4..at + 4 + n], name);
+            at += 4 + n;
+        }
+        assert_eq!(at, got.len(), "answers that nobody asked for");
+        self.batch.clear();
+    }
+
+    fn compare(&mut self, op: u8, input: Vec<u8>, want: &[u8], got: &[u8], name: Option<&'static str>) {
+        self.calls[op as usize] += 1;
+        if let Some(name) = name {
+            *self.intended.entry(name).or_default() += 1;
+        }
+        if wire::refuses(op) {
+            *self.refused.entry((op, got.first().copied().unwrap_or(255))).or_default() += 1;
+        }
+        if want != got {
+            self.wrong += 1;
+            if self.smallest.as_ref().is_none_or(|s| input.len() < s.1.len()) {
+                self.smallest = Some((op, input, want.to_vec(), got.to_vec()));
+            }
+        }
+    }
+
+    fn report(self) -> bool {
+        println!("call: comparisons; answers by refusal number (0: given)");
+        for (op, n) in self.calls.iter().enumerate().filter(|c| *c.1 > 0) {
+            let kinds: Vec<_> = self.refused.iter().filter(|r| r.0.0 as usize == op).map(|r| format!("{}: {}", r.0.1, r.1)).collect();
+            println!("  {}: {n}{}{}", NAMES[op], if kinds.is_empty() { "" } else { "; " }, kinds.join(", "));
+        }
+        println!("intended differences seen (docs/DIFFERENCES.md):");
+        for (name, n) in &self.intended {
+            println!("  {name}: {n}");
+        }
+        let total: u64 = self.calls.iter().sum();
+        if let Some((op, input, want, got)) = self.smallest {
+            println!("smallest difference, of {} bytes, in {}:", input.len(), NAMES[op as usize]);
+            for (what, bytes) in [("input", &input), ("Rust", &want), ("ours", &got)] {
+                println!("  {what}: {}", bytes.iter().take(200).map(|b| format!("{b:02X}")).collect::<Vec<_>>().join(" "));
+            }
+        }
+        self.ours.end();
+        println!("{total} comparisons, {} differences that are on no list", self.wrong);
+        self.wrong == 0
+    }
+}
+
+fn main() {
+    let args: Vec<String> = std::env::args().collect();
+    let seed: u64 = args[1].parse().expect("SEED is a number");
+    let count: u64 = args[2].parse().expect("COUNT is a number");
+    println!("seed {seed}, count {count}");
+    let mut compare = Compare::new(Ours::start(&args[3..]));
+    cases::all(&mut compare, seed, count);
+    compare.flush();
+    if !compare.report() {
+        std::process::exit(1);
+    }
+}

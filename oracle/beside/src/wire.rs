@@ -1,0 +1,121 @@
+//! Requests to the proved side and the layout of its answers. All numbers have their low byte first.
+use std::io::{Read, Write};
+use std::process::{Child, ChildStdin, ChildStdout, Command, Stdio};
+
+/// What a lent buffer holds before a call, and how many bytes beyond it are watched.
+pub const GUARD: usize = 16;
+pub fn fill(n: usize) -> Vec<u8> {
+    (0..n).map(|i| 0xA5 ^ (i.wrapping_mul(7) as u8)).collect()
+}
+
+pub const CHECKSUM8: u8 = 0;
+pub const CRC16: u8 = 1;
+pub const ADDRESS_PD: u8 = 2;
+pub const ADDRESS_REPLY: u8 = 3;
+pub const SQN_NEW: u8 = 4;
+pub const SQN_NEXT: u8 = 5;
+pub const CONTROL_DECODE: u8 = 6;
+pub const CONTROL_ENCODE: u8 = 7;
+pub const SCS_TYPE: u8 = 8;
+pub const BLOCK: u8 = 9;
+pub const HEAD: u8 = 10;
+pub const PARSE: u8 = 11;
+pub const BUILD: u8 = 12;
+pub const BUILD_BODY: u8 = 13;
+pub const AES_ENCRYPT: u8 = 14;
+pub const AES_DECRYPT: u8 = 15;
+pub const DERIVE: u8 = 16;
+pub const CLIENT: u8 = 17;
+pub const SERVER: u8 = 18;
+pub const FIRST: u8 = 19;
+pub const DIVERSIFY: u8 = 20;
+pub const COMPLEMENT: u8 = 21;
+pub const PAD_MAC: u8 = 22;
+pub const PAD_DATA: u8 = 23;
+pub const UNPAD: u8 = 24;
+pub const CBC_MAC: u8 = 25;
+pub const ENCRYPT: u8 = 26;
+pub const DECRYPT: u8 = 27;
+
+/// Whether an answer starts with a refusal's number.
+pub fn refuses(op: u8) -> bool {
+    !matches!(op, CHECKSUM8 | CRC16 | AES_ENCRYPT..=COMPLEMENT | CBC_MAC)
+}
+
+pub const NAMES: [&str; 28] = [
+    "checksum8", "crc16", "address pd", "address reply", "sqn new", "sqn next", "control decode", "control encode",
+    "scs type", "block", "head", "parse", "build", "build body", "aes encrypt", "aes decrypt", "derive", "client cryptogram",
+    "server cryptogram", "first chain value", "diversify scbk", "complement icv", "pad mac", "pad data", "unpad data", "cbc mac",
+    "encrypt data", "decrypt data",
+];
+
+/// Bytes of an answer, put one after the other.
+#[derive(Default, Clone, PartialEq, Eq)]
+pub struct Out(pub Vec<u8>);
+impl Out {
+    pub fn u8(&mut self, x: u8) -> &mut Self {
+        self.0.push(x);
+        self
+    }
+    pub fn bool(&mut self, x: bool) -> &mut Self {
+        self.u8(x as u8)
+    }
+    pub fn u16(&mut self, x: u16) -> &mut Self {
+        self.0.extend_from_slice(&x.to_le_bytes());
+        self
+    }
+    pub fn u32(&mut self, x: usize) -> &mut Self {
+        self.0.extend_from_slice(&(x as u32).to_le_bytes());
+        self
+    }
+    pub fn u64(&mut self, x: usize) -> &mut Self {
+        self.0.extend_from_slice(&(x as u64).to_le_bytes());
+        self
+    }
+    pub fn bytes(&mut self, x: &[u8]) -> &mut Self {
+        self.0.extend_from_slice(x);
+        self
+    }
+    /// A refusal's number and its two values, or 0, what was given, and 0.
+    pub fn answer(&mut self, a: (u8, usize, usize)) -> &mut Self {
+        self.u8(a.0).u64(a.1).u64(a.2)
+    }
+}
+
+/// The other process.
+pub struct Ours {
+    child: Child,
+    to: Option<ChildStdin>,
+    from: ChildStdout,
+}
+impl Ours {
+    pub fn start(command: &[String]) -> Self {
+        let mut child = Command::new(&command[0])
+            .args(&command[1..])
+            .stdin(Stdio::piped())
+            .stdout(Stdio::piped())
+            .spawn()
+            .expect("the proved side does not start");
+        let to = child.stdin.take();
+        let from = child.stdout.take().unwrap();
+        Self { child, to, from }
+    }
+    pub fn send(&mut self, batch: &[u8]) {
+        let to = self.to.as_mut().unwrap();
+        to.write_all(&(batch.len() as u32).to_le_bytes()).expect("the proved side does not read");
+        to.write_all(batch).expect("the proved side does not read");
+        to.flush().unwrap();
+    }
+    pub fn receive(&mut self) -> Vec<u8> {
+        let mut head = [0; 4];
+        self.from.read_exact(&mut head).expect("the proved side does not answer");
+        let mut all = vec![0; u32::from_le_bytes(head) as usize];
+        self.from.read_exact(&mut all).expect("the proved side does not answer");
+        all
+    }
+    pub fn end(mut self) {
+        self.to.take();
+        let status = self.child.wait().unwrap();
+        assert!(status.success(), "the proved side ended with {status}");
+    }
+}
