@@ -45,7 +45,7 @@ abbrev pub askedParts : Asked → List ℕ → List ℕ → GivenMac → Answer 
 askedParts (Asked.Good w) l d m = given (partsOf w l d m)
 askedParts (Asked.Refused e) l d m = refusalOf e
 
--- what the helpers promise, whatever bytes come beside
+-- what the functions below the exports promise, whatever bytes come beside
 abbrev pub KindMeets : Kind → ℕ → Type 0
 KindMeets k ty = (l : List ℕ) → kindAnswer k l ≡ blockArg ty l
 
