@@ -67,7 +67,7 @@ fn key(w: &[u8; 176], at: usize) -> u64
 }
 
 // The first half of a block, and a round key added.
-pub fn first(s: [u8; 16], w: &[u8; 176], at: usize) -> u64
+pub(crate) fn first(s: [u8; 16], w: &[u8; 176], at: usize) -> u64
     requires { ⌜ at ≤ 160 ⌝ }
     ensures { λ r. ⌜ unpacked 8 r ≡ xorl (part s 0) (part (now (w .entry)) at) ⌝ }
 {
@@ -75,7 +75,7 @@ pub fn first(s: [u8; 16], w: &[u8; 176], at: usize) -> u64
 }
 
 // The second half.
-pub fn second(s: [u8; 16], w: &[u8; 176], at: usize) -> u64
+pub(crate) fn second(s: [u8; 16], w: &[u8; 176], at: usize) -> u64
     requires { ⌜ at ≤ 168 ⌝ }
     ensures { λ r. ⌜ unpacked 8 r ≡ xorl (part s 8) (part (now (w .entry)) at) ⌝ }
 {
@@ -83,7 +83,7 @@ pub fn second(s: [u8; 16], w: &[u8; 176], at: usize) -> u64
 }
 
 // A round of Cipher, with the half of its round key from `at` on.
-pub fn round(t: &[u8; 256], w: &[u8; 176], at: usize, x: u64, y: u64) -> u64
+pub(crate) fn round(t: &[u8; 256], w: &[u8; 176], at: usize, x: u64, y: u64) -> u64
     requires { ⌜ at ≤ 168 ⌝ }
     ensures { λ r. ⌜ unpacked 8 r ≡ xorl (columns (λ a b c d. 2 • a ⊕ 3 • b ⊕ c ⊕ d) (forth (now (t .entry)) (unpacked 8 x) (unpacked 8 y))) (part (now (w .entry)) at) ⌝ }
 {
@@ -91,7 +91,7 @@ pub fn round(t: &[u8; 256], w: &[u8; 176], at: usize, x: u64, y: u64) -> u64
 }
 
 // The last round, which mixes no columns.
-pub fn last(t: &[u8; 256], w: &[u8; 176], at: usize, x: u64, y: u64) -> u64
+pub(crate) fn last(t: &[u8; 256], w: &[u8; 176], at: usize, x: u64, y: u64) -> u64
     requires { ⌜ at ≤ 168 ⌝ }
     ensures { λ r. ⌜ unpacked 8 r ≡ xorl (forth (now (t .entry)) (unpacked 8 x) (unpacked 8 y)) (part (now (w .entry)) at) ⌝ }
 {
@@ -99,7 +99,7 @@ pub fn last(t: &[u8; 256], w: &[u8; 176], at: usize, x: u64, y: u64) -> u64
 }
 
 // A round of InvCipher.
-pub fn unround(t: &[u8; 256], w: &[u8; 176], at: usize, x: u64, y: u64) -> u64
+pub(crate) fn unround(t: &[u8; 256], w: &[u8; 176], at: usize, x: u64, y: u64) -> u64
     requires { ⌜ at ≤ 168 ⌝ }
     ensures { λ r. ⌜ unpacked 8 r ≡ columns (λ a b c d. 14 • a ⊕ 11 • b ⊕ 13 • c ⊕ 9 • d) (xorl (back (now (t .entry)) (unpacked 8 x) (unpacked 8 y)) (part (now (w .entry)) at)) ⌝ }
 {
@@ -107,7 +107,7 @@ pub fn unround(t: &[u8; 256], w: &[u8; 176], at: usize, x: u64, y: u64) -> u64
 }
 
 // Its last round.
-pub fn unlast(t: &[u8; 256], w: &[u8; 176], at: usize, x: u64, y: u64) -> u64
+pub(crate) fn unlast(t: &[u8; 256], w: &[u8; 176], at: usize, x: u64, y: u64) -> u64
     requires { ⌜ at ≤ 168 ⌝ }
     ensures { λ r. ⌜ unpacked 8 r ≡ xorl (back (now (t .entry)) (unpacked 8 x) (unpacked 8 y)) (part (now (w .entry)) at) ⌝ }
 {
@@ -121,7 +121,7 @@ fn low(x: u64) -> u8
 }
 
 // The block that two halves are.
-pub fn joined(x: u64, y: u64) -> [u8; 16]
+pub(crate) fn joined(x: u64, y: u64) -> [u8; 16]
     ensures { λ r. ⌜ r ≡ unpacked 8 x ++ unpacked 8 y ⌝ }
 {
     [
