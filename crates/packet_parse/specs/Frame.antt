@@ -57,6 +57,15 @@ pub record Fields : Type 0 where
   pub trailer : Tail
   pub len : ℕ
 
+-- a block that is not there has type 0, a MAC that is not there place 0
+abbrev pub typeIn : BlockAt → ℕ
+typeIn noBlock = 0
+typeIn (blockAt type start len) = type
+
+abbrev pub macStart : MacAt → ℕ
+macStart noMac = 0
+macStart (macFrom at) = at
+
 abbrev pub macAt : Bool → ℕ → MacAt
 macAt mac at = cond mac (macFrom at) noMac
 

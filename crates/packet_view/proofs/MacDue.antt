@@ -1,69 +1,28 @@
--- An accepted frame has a MAC of four bytes where its block is of the types 15 to 18, and none else (docs/RULES.md, 3.6).
+-- The MAC that a view shows has four bytes where the block is of the types 15 to 18, and none else (docs/RULES.md, 3.6).
 -- Assumes nothing.
 use mathlib.Core.Path.{_≡_, refl, ap, _∙_}
-use mathlib.Core.Bool.{Bool, true, false, _&&_, not}
 use mathlib.Core.List.{List, []}
-use Prim.Native.Nat.{ℕ, _+_, _≤_, _<_}
-use borrow.Author.Tests.{le-leb, lt-leb, leb-true}
-use lib.Dec.{leb}
-use lib.ListN.{length, getD, take, drop}
+use Prim.Native.Nat.{ℕ, _≤_, _<_}
+use borrow.Author.Tests.{le-leb, lt-leb}
+use lib.ListN.{length, take, drop}
 use Rattle.laws.specs.Answer.{Answer.given}
-use Rattle.laws.proofs.Answers.{Holds, holds-refuse, holds-choose, holds-then, holds-given}
-use Rattle.packet_head.specs.Header.{Control}
-use Rattle.packet_head.specs.Block.{BlockRead, hasMac, scsOf, scbOf}
+use Rattle.packet_head.specs.Block.{hasMac}
 use Rattle.packet_head.specs.Trailer.{macLen}
-use Rattle.packet_parse.specs.Frame.{Fields, BlockAt, BlockAt.noBlock, BlockAt.blockAt, macAt, partsOf, frameOf, parseOf}
-use Rattle.packet_view.specs.View.{typeIn, macIn, macOf}
+use Rattle.packet_parse.specs.Frame.{Fields, MacAt, MacAt.noMac, MacAt.macFrom, typeIn, parseOf}
+use Rattle.packet_parse.proofs.MacDue.{there, accepted-due}
+use Rattle.packet_view.specs.View.{macIn, macOf}
 use Rattle.packet_view.proofs.ShownLaws.{accepted-mac, mac-length}
 
--- a block's type is one of the eight
-abbrev TypeKnown : BlockAt → Type 0
-TypeKnown noBlock = Unit {0}
-TypeKnown (blockAt ty start len) = (0x11 ≤ ty) × (ty ≤ 0x18)
-
-abbrev pub Due : Fields → Type 0
-Due F = TypeKnown (F .block) × (macIn (F .mac) .1 ≡ macLen (hasMac (typeIn (F .block))))
-
-mac-size : (m : Bool) (at : ℕ) → macIn (macAt m at) .1 ≡ macLen m
-mac-size true at = refl
-mac-size false at = refl
-
-parts-due : (f : List ℕ) (a : ℕ) (c : Control) (b : BlockAt) (at : ℕ) → TypeKnown b → Holds Due (partsOf f a c b at (hasMac (typeIn b)))
-unfolding partsOf
-parts-due f a c b at k = holds-refuse _ _ _ _ _ (λ _. holds-refuse _ _ _ _ _ (λ _. holds-then _ _ _ (λ t _. (k, mac-size (hasMac (typeIn b)) _))))
-
-both : (x y : Bool) → not (x && y) ≡ false → (x ≡ true) × (y ≡ true)
-both true true e = (refl, refl)
-both true false e = (refl, cc)
-both false y e = (cc, cc)
-
-scs-known : (b : ℕ) → Holds (λ (ty : ℕ). (0x11 ≤ ty) × (ty ≤ 0x18)) (scsOf b)
-unfolding scsOf
-scs-known b = holds-refuse _ _ _ _ _ (λ k. let h = both (leb 0x11 b) (leb b 0x18) k in (leb-true 0x11 b (h .0), leb-true b 0x18 (h .1)))
-
-type-known : (b : List ℕ) → Holds (λ (r : BlockRead). (0x11 ≤ r .0) × (r .0 ≤ 0x18)) (scbOf b)
-unfolding scbOf
-type-known b =
-    holds-refuse _ _ _ _ _ (λ _. holds-refuse _ _ _ _ _ (λ _. holds-refuse _ _ _ _ _ (λ _.
-    holds-then _ _ _ (λ ty e. holds-given _ (scsOf (getD b 1 0)) ty (scs-known (getD b 1 0)) e))))
-
-frame-due : (f : List ℕ) (a : ℕ) (c : Control) → Holds Due (frameOf f a c)
-unfolding frameOf
-frame-due f a c =
-    holds-refuse _ _ _ _ _ (λ _. holds-choose _ _ _ _
-    (λ _. holds-then _ _ _ (λ b e. parts-due f a c (blockAt (b .0) 7 (b .1)) (7 + b .1) (holds-given _ (scbOf (drop 5 f)) b (type-known (drop 5 f)) e)))
-    (λ _. parts-due f a c noBlock 5 tt))
-
-parse-due : (s : List ℕ) → Holds Due (parseOf s)
-unfolding parseOf
-parse-due s = holds-then _ _ _ (λ h _. holds-refuse _ _ _ _ _ (λ _. frame-due (take (h .len) s) (h .addr) (h .ctrl)))
+mac-size : (m : MacAt) → macIn m .1 ≡ macLen (there m)
+mac-size noMac = refl
+mac-size (macFrom at) = refl
 
 module _ (s : List ℕ) (F : Fields) (e : parseOf s ≡ given F) where
-  pub accepted-due : Due F
-  accepted-due = holds-given Due (parseOf s) F (parse-due s) e
+  due : macIn (F .mac) .1 ≡ macLen (hasMac (typeIn (F .block)))
+  due = mac-size (F .mac) ∙ ap macLen (accepted-due s F e .1)
 
   pub mac-four : 0x15 ≤ typeIn (F .block) → length (macOf s) ≡ 4
-  mac-four h = mac-length s F e ∙ accepted-due .1 ∙ ap macLen (le-leb 0x15 (typeIn (F .block)) h)
+  mac-four h = mac-length s F e ∙ due ∙ ap macLen (le-leb 0x15 (typeIn (F .block)) h)
 
   pub mac-none : typeIn (F .block) < 0x15 → macOf s ≡ []
-  mac-none h = accepted-mac s F e ∙ ap (λ (k : ℕ). take k (drop (macIn (F .mac) .0) s)) (accepted-due .1 ∙ ap macLen (lt-leb 0x15 (typeIn (F .block)) h))
+  mac-none h = accepted-mac s F e ∙ ap (λ (k : ℕ). take k (drop (macIn (F .mac) .0) s)) (due ∙ ap macLen (lt-leb 0x15 (typeIn (F .block)) h))

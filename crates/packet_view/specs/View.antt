@@ -11,7 +11,7 @@ use Rattle.refusal.specs.Paper.{refusalOf}
 use Rattle.packet_head.specs.Header.{Control, control}
 use Rattle.packet_head.specs.Block.{typeOf}
 use Rattle.packet_head.specs.Trailer.{Tail, Tail.checksum, tail}
-use Rattle.packet_parse.specs.Frame.{Fields, BlockAt, BlockAt.noBlock, BlockAt.blockAt, MacAt, MacAt.noMac, MacAt.macFrom, parseOf}
+use Rattle.packet_parse.specs.Frame.{Fields, BlockAt, BlockAt.noBlock, BlockAt.blockAt, MacAt, MacAt.noMac, MacAt.macFrom, typeIn, parseOf}
 use Rattle.packet_view.specs.declared.parts.Outcome.{Outcome}
 use Rattle.packet_view.specs.declared.parts.BlockKind.{BlockKind}
 use Rattle.packet_view.specs.declared.parts.Places.{Places}
@@ -39,11 +39,6 @@ macIn noMac = (0, 0)
 macIn (macFrom at) = (at, 4)
 
 -- ---- what a view tells
-
--- the block's type, 0 without a block
-abbrev pub typeIn : BlockAt → ℕ
-typeIn noBlock = 0
-typeIn (blockAt ty start len) = ty
 
 pub record Shown : Type 0 where
   pub outcome : Answer (Unit {0})

@@ -1,9 +1,9 @@
 // What a frame tells and where its parts stand, by value; and a part of a slice.
 ghost use mathlib.Core.Path.{_≡_};
 ghost use Rattle.refusal.specs.Paper.{refusalOf};
-ghost use Rattle.packet_parse.specs.Frame.{parseOf, fields, blockPlace, macPlace};
+ghost use Rattle.packet_parse.specs.Frame.{typeIn, parseOf, fields, blockPlace, macPlace};
 ghost use Rattle.laws.specs.Answer.{Answer.given};
-ghost use Rattle.packet_view.specs.View.{shown, placesOf, kindOf, typeIn, blockIn, macIn, partOf};
+ghost use Rattle.packet_view.specs.View.{shown, placesOf, kindOf, blockIn, macIn, partOf};
 use packet_head::Address;
 use packet_head::ControlByte;
 use packet_head::ScsType;

@@ -34,7 +34,7 @@ module _ (k v x o : List ℕ) (need : ℕ) (e : need ≡ length (padData x)) whe
 
 -- ---- a buffer written twice
 
-over : (o s t : List ℕ) → length s ≡ length t → write (write o 0 s) 0 t ≡ write o 0 t
+pub over : (o s t : List ℕ) → length s ≡ length t → write (write o 0 s) 0 t ≡ write o 0 t
 unfolding write
 over o s t e =
     ap (λ (r : List ℕ). t ++ r)

@@ -13,14 +13,14 @@ use lib.Seq.{length-take-le}
 use Rattle.laws.specs.Answer.{Answer, Answer.given, Answer.refused}
 use Rattle.laws.specs.Bytes.{compl, eql}
 use Rattle.packet_head.specs.Block.{hasMac, isEncrypted}
-use Rattle.packet_parse.specs.Frame.{Fields, parseOf}
+use Rattle.packet_parse.specs.Frame.{Fields, typeIn, macStart, parseOf}
 use Rattle.refusal.specs.declared.Refusal.{Refusal}
 use Rattle.secure_cipher.specs.Cbc.{Done, Opening, decryptOf, openedInto, wiped}
 use Rattle.secure_cipher.specs.Mac.{Mac, macOf}
 use Rattle.secure_keys.specs.declared.crypto.SessionKeys.{SessionKeys}
 use Rattle.secure_session.specs.Session.{isSecure, recvFrom, received}
 use Rattle.secure_session.specs.declared.session.Session.{Session}
-use Rattle.secure_unseal.specs.Unseal.{Checked, UnsealRun, macStart, typeIn, check, openData, unsealPlain, unsealOpened, unsealHidden, unsealParsed, unsealRun, unsealOf, afterUnseal}
+use Rattle.secure_unseal.specs.Unseal.{Checked, UnsealRun, check, openData, unsealPlain, unsealOpened, unsealHidden, unsealParsed, unsealRun, unsealOf, afterUnseal}
 use Rattle.secure_unseal.specs.Parts.{ran, stopped, settled}
 use Rattle.secure_unseal.specs.declared.frame.Run.{Run}
 

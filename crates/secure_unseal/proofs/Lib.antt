@@ -1,6 +1,6 @@
 pub mod Cases
 pub mod Wiping
-pub mod MacDue
+pub mod Inside
 pub mod LookupLaws
 pub mod Settled
 pub mod UnsealLaws

@@ -16,18 +16,18 @@ use Rattle.laws.specs.Over.{write}
 use Rattle.laws.proofs.ByteLists.{eql-refl}
 use Rattle.laws.proofs.Overwrite.{length-write}
 use Rattle.packet_head.specs.Block.{hasMac, isEncrypted}
-use Rattle.packet_parse.specs.Frame.{Fields, parseOf}
+use Rattle.packet_parse.specs.Frame.{Fields, typeIn, macStart, parseOf}
 use Rattle.secure_cipher.specs.Cbc.{Opening, reveal, openedInto, laid, wiped}
 use Rattle.secure_cipher.specs.Mac.{Mac, macOf}
 use Rattle.secure_keys.specs.declared.crypto.SessionKeys.{SessionKeys}
 use Rattle.secure_session.specs.Session.{isSecure, recvFrom}
 use Rattle.secure_session.specs.declared.session.State.{State}
 use Rattle.secure_session.specs.declared.session.Session.{Session}
-use Rattle.secure_unseal.specs.Unseal.{Checked, Place, UnsealRun, macStart, typeIn, check, openData, unsealPlain, unsealOpened, unsealHidden, unsealParsed, unsealRun, unsealOf, afterUnseal}
+use Rattle.secure_unseal.specs.Unseal.{Checked, Place, UnsealRun, check, openData, unsealPlain, unsealOpened, unsealHidden, unsealParsed, unsealRun, unsealOf, afterUnseal}
 use Rattle.secure_unseal.specs.Lookup.{shown}
 use Rattle.secure_unseal.proofs.Cases.{yes, no, parsed-hidden, parsed-plain}
 use Rattle.secure_unseal.proofs.LookupLaws.{shown-inside}
-use Rattle.secure_unseal.proofs.MacDue.{data-inside}
+use Rattle.secure_unseal.proofs.Inside.{data-inside}
 
 -- ---- a frame with a right MAC opens
 

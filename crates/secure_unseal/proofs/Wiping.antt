@@ -8,29 +8,21 @@ use native.Mathlib.Omega.{arith}
 use borrow.Author.Tests.{ltb-false}
 use lib.Dec.{ltb, eqb}
 use lib.ListN.{length, take, drop, length-drop, length-append, length-replicate}
-use lib.Seq.{length-take-le, drop-at}
+use lib.Seq.{length-take-le}
 use Rattle.laws.specs.Answer.{Answer, Answer.given, Answer.refused}
 use Rattle.laws.specs.Bytes.{Bytes, zeros, compl}
 use Rattle.laws.proofs.ByteLists.{bytes-take, bytes-drop, bytes-compl, length-compl}
 use Rattle.laws.specs.Blocks.{Block, Blocks, blocks, flat}
-use Rattle.laws.specs.Over.{write}
 use Rattle.laws.proofs.BlockLists.{block-xorl, length-blocks, length-flat, blocks-blocks}
 use Rattle.aes.proofs.Laws.{D-block}
 use Rattle.aes.specs.Cipher.{D}
 use Rattle.secure_cipher.specs.Cbc.{Done, Opening, decRun, reveal, decryptOf, openedInto, wiped, laid}
+use Rattle.secure_cipher.proofs.CbcCalls.{over}
 use Rattle.secure_cipher.proofs.CbcLaws.{dec-steps}
 use Rattle.secure_cipher.proofs.MacLaws.{mac-steps}
 use Rattle.secure_cipher.proofs.PadLaws.{unpad-less}
 use Rattle.secure_keys.specs.declared.crypto.SessionKeys.{SessionKeys}
 use Rattle.secure_unseal.specs.Unseal.{check}
-
--- ---- a buffer written twice
-
-over : (o s t : List ℕ) → length s ≡ length t → write (write o 0 s) 0 t ≡ write o 0 t
-unfolding write
-over o s t e =
-    ap (λ (r : List ℕ). t ++ r)
-    (ap (λ (n : ℕ). drop (0 + n) (s ++ drop (0 + length s) o)) (sym e) ∙ drop-at s (drop (0 + length s) o) (0 + length s) (omega arith) ∙ ap (λ (n : ℕ). drop (0 + n) o) e)
 
 -- ---- the text
 

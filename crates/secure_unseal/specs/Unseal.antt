@@ -11,7 +11,7 @@ use Rattle.laws.specs.Answer.{Answer, Answer.given, Answer.refused}
 use Rattle.laws.specs.Bytes.{compl, eql}
 use Rattle.refusal.specs.Paper.{refusalOf}
 use Rattle.packet_head.specs.Block.{hasMac, isEncrypted}
-use Rattle.packet_parse.specs.Frame.{Fields, BlockAt, BlockAt.noBlock, BlockAt.blockAt, MacAt, MacAt.noMac, MacAt.macFrom, parseOf}
+use Rattle.packet_parse.specs.Frame.{Fields, typeIn, macStart, parseOf}
 use Rattle.secure_keys.specs.declared.crypto.SessionKeys.{SessionKeys}
 use Rattle.secure_cipher.specs.Mac.{macOf}
 use Rattle.secure_cipher.specs.Cbc.{Opening, reveal, openedInto, wiped}
@@ -22,11 +22,6 @@ use Rattle.secure_unseal.specs.declared.frame.PlaceAnswer.{PlaceAnswer}
 use Rattle.secure_unseal.specs.declared.frame.Unsealed.{Unsealed}
 
 -- ---- the MAC's check
-
--- where the MAC stands; 0 where there is none, which the tests before keep away
-abbrev pub macStart : MacAt → ℕ
-macStart noMac = 0
-macStart (macFrom at) = at
 
 pub record Checked : Type 0 where
   pub right : Bool
@@ -80,11 +75,6 @@ unsealOpened c n o (refused m vs) w = record { answer = refused m vs; moved = no
 unfoldable pub unsealHidden : Checked → Opening → Fields → List ℕ → UnsealRun
 unsealHidden c o p w =
     cond (ltb (length w) (p .dataLen)) (stop 18 (p .dataLen ∷ length w ∷ []) w) (unsealOpened c (p .dataLen) o (o .answer) w)
-
--- the block's type, where there is a block
-abbrev pub typeIn : BlockAt → ℕ
-typeIn noBlock = 0
-typeIn (blockAt ty start len) = ty
 
 -- no block, or type 11 to 14: 13
 unfoldable pub unsealParsed : SessionKeys → List ℕ → List ℕ → Answer Fields → List ℕ → UnsealRun

@@ -5,11 +5,11 @@ use mathlib.Core.Bool.{true, false}
 use mathlib.Core.Path.{_≡_, sym, ap, _∙_}
 use Prim.Native.Nat.{ℕ}
 use Rattle.packet_head.specs.Block.{hasMac, isEncrypted}
-use Rattle.packet_parse.specs.Frame.{fields, blockPlace}
+use Rattle.packet_parse.specs.Frame.{typeIn, fields, blockPlace}
 use Rattle.packet_parse.specs.declared.codec.BlockPart.{BlockPart}
-use Rattle.secure_unseal.specs.Unseal.{Checked, typeIn, check, openData, unsealPlain, unsealHidden}
+use Rattle.secure_unseal.specs.Unseal.{Checked, check, openData, unsealPlain, unsealHidden}
 use Rattle.secure_unseal.proofs.Cases.{stops, parsed-no, parsed-hidden, parsed-plain}
-use Rattle.secure_unseal.proofs.MacDue.{mac-inside, data-inside}
+use Rattle.secure_unseal.proofs.Inside.{mac-inside, data-inside}
 use borrow.Author.Needs.{needs}
 use Rattle.secure_unseal.proofs.frame.unseal_parsed.Statement.{statement}
 use Rattle.secure_unseal.proofs.frame.unseal_parsed.Tie as tie

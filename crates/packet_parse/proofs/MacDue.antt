@@ -1,0 +1,62 @@
+-- Of an accepted frame: its block's type is one of the eight, and it has a MAC exactly where that is 15 to 18 (docs/RULES.md, 3.6).
+-- Assumes nothing.
+use mathlib.Core.Path.{_≡_, refl}
+use mathlib.Core.Bool.{Bool, true, false, _&&_, not}
+use mathlib.Core.List.{List}
+use Prim.Native.Nat.{ℕ, _+_, _≤_}
+use borrow.Author.Tests.{leb-true}
+use lib.Dec.{leb}
+use lib.ListN.{getD, take, drop}
+use Rattle.laws.specs.Answer.{Answer.given}
+use Rattle.laws.proofs.Answers.{Holds, holds-refuse, holds-choose, holds-then, holds-given}
+use Rattle.packet_head.specs.Header.{Control}
+use Rattle.packet_head.specs.Block.{BlockRead, hasMac, scsOf, scbOf}
+use Rattle.packet_parse.specs.Frame.{Fields, BlockAt, BlockAt.noBlock, BlockAt.blockAt, MacAt, MacAt.noMac, MacAt.macFrom, typeIn, macAt, partsOf, frameOf, parseOf}
+
+abbrev pub there : MacAt → Bool
+there noMac = false
+there (macFrom at) = true
+
+abbrev TypeKnown : BlockAt → Type 0
+TypeKnown noBlock = Unit {0}
+TypeKnown (blockAt ty start len) = (0x11 ≤ ty) × (ty ≤ 0x18)
+
+abbrev pub Due : Fields → Type 0
+Due F = TypeKnown (F .block) × (there (F .mac) ≡ hasMac (typeIn (F .block)))
+
+there-at : (m : Bool) (at : ℕ) → there (macAt m at) ≡ m
+there-at true at = refl
+there-at false at = refl
+
+parts-due : (f : List ℕ) (a : ℕ) (c : Control) (b : BlockAt) (at : ℕ) → TypeKnown b → Holds Due (partsOf f a c b at (hasMac (typeIn b)))
+unfolding partsOf
+parts-due f a c b at k = holds-refuse _ _ _ _ _ (λ _. holds-refuse _ _ _ _ _ (λ _. holds-then _ _ _ (λ t _. (k, there-at (hasMac (typeIn b)) _))))
+
+both : (x y : Bool) → not (x && y) ≡ false → (x ≡ true) × (y ≡ true)
+both true true e = (refl, refl)
+both true false e = (refl, cc)
+both false y e = (cc, cc)
+
+scs-known : (b : ℕ) → Holds (λ (ty : ℕ). (0x11 ≤ ty) × (ty ≤ 0x18)) (scsOf b)
+unfolding scsOf
+scs-known b = holds-refuse _ _ _ _ _ (λ k. let h = both (leb 0x11 b) (leb b 0x18) k in (leb-true 0x11 b (h .0), leb-true b 0x18 (h .1)))
+
+type-known : (b : List ℕ) → Holds (λ (r : BlockRead). (0x11 ≤ r .0) × (r .0 ≤ 0x18)) (scbOf b)
+unfolding scbOf
+type-known b =
+    holds-refuse _ _ _ _ _ (λ _. holds-refuse _ _ _ _ _ (λ _. holds-refuse _ _ _ _ _ (λ _.
+    holds-then _ _ _ (λ ty e. holds-given _ (scsOf (getD b 1 0)) ty (scs-known (getD b 1 0)) e))))
+
+frame-due : (f : List ℕ) (a : ℕ) (c : Control) → Holds Due (frameOf f a c)
+unfolding frameOf
+frame-due f a c =
+    holds-refuse _ _ _ _ _ (λ _. holds-choose _ _ _ _
+    (λ _. holds-then _ _ _ (λ b e. parts-due f a c (blockAt (b .0) 7 (b .1)) (7 + b .1) (holds-given _ (scbOf (drop 5 f)) b (type-known (drop 5 f)) e)))
+    (λ _. parts-due f a c noBlock 5 tt))
+
+parse-due : (s : List ℕ) → Holds Due (parseOf s)
+unfolding parseOf
+parse-due s = holds-then _ _ _ (λ h _. holds-refuse _ _ _ _ _ (λ _. frame-due (take (h .len) s) (h .addr) (h .ctrl)))
+
+pub accepted-due : (s : List ℕ) (F : Fields) → parseOf s ≡ given F → Due F
+accepted-due s F e = holds-given Due (parseOf s) F (parse-due s) e
