@@ -2,16 +2,19 @@
 mod cases;
 mod rust;
 mod second;
+mod session;
+mod talk;
 mod wire;
 
 use std::collections::BTreeMap;
+use rust::Answer;
 use wire::{NAMES, Ours};
 
 /// Sends requests in batches and compares what comes back.
 pub struct Compare {
     ours: Ours,
     batch: Vec<u8>,
-    asked: Vec<(u8, Vec<u8>)>,
+    asked: Vec<(u8, Vec<u8>, Option<Answer>)>,
     /// How many comparisons each call had, and how often each intended difference was seen.
     calls: [u64; NAMES.len()],
     intended: BTreeMap<&'static str, u64>,
@@ -29,10 +32,22 @@ impl Compare {
     }
 
     pub fn ask(&mut self, op: u8, input: Vec<u8>) {
+        self.push(op, input, None);
+    }
+
+    /// Asks, and tells what the oracle answers: the next call may need it.
+    pub fn step(&mut self, op: u8, input: Vec<u8>) -> Vec<u8> {
+        let answer = rust::call(op, &input);
+        let told = answer.0.0.clone();
+        self.push(op, input, Some(answer));
+        told
+    }
+
+    fn push(&mut self, op: u8, input: Vec<u8>, answer: Option<Answer>) {
         self.batch.push(op);
         self.batch.extend_from_slice(&(input.len() as u32).to_le_bytes());
         self.batch.extend_from_slice(&input);
-        self.asked.push((op, input));
+        self.asked.push((op, input, answer));
         if self.batch.len() >= BATCH {
             self.flush();
         }
@@ -45,10 +60,10 @@ impl Compare {
         }
         self.ours.send(&self.batch);
         let asked = std::mem::take(&mut self.asked);
-        let want: Vec<_> = asked.iter().map(|(op, input)| rust::call(*op, input)).collect();
+        let asked: Vec<_> = asked.into_iter().map(|(op, input, answer)| (op, answer.unwrap_or_else(|| rust::call(op, &input)), input)).collect();
         let got = self.ours.receive();
         let mut at = 0;
-        for ((op, input), (want, name)) in asked.into_iter().zip(want) {
+        for (op, (want, name), input) in asked {
             let n = u32::from_le_bytes(got[at..at + 4].try_into().unwrap()) as usize;
             self.compare(op, input, &want.0, &got[at + 4..at + 4 + n], name);
             at += 4 + n;
