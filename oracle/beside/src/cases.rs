@@ -9,6 +9,9 @@ use osdp::secure::cipher::encrypt_data;
 /// xorshift64*, so that a seed gives the same run everywhere.
 pub struct Random(u64);
 impl Random {
+    pub fn new(seed: u64) -> Self {
+        Self(seed.wrapping_mul(0x9E37_79B9_7F4A_7C15) | 1)
+    }
     pub fn next(&mut self) -> u64 {
         self.0 ^= self.0 >> 12;
         self.0 ^= self.0 << 25;
@@ -335,7 +338,7 @@ fn ciphers(c: &mut Compare, r: &mut Random, count: u64) {
 }
 
 pub fn all(c: &mut Compare, seed: u64, count: u64) {
-    let mut r = Random(seed.wrapping_mul(0x9E37_79B9_7F4A_7C15) | 1);
+    let mut r = Random::new(seed);
     bytes(c);
     exhaustive(c);
     sums(c, &mut r, count);
