@@ -19,13 +19,6 @@ fn filled() -> [u8; 1024]
     b
 }
 
-pub fn is_lent(op: u8) -> bool {
-    match op {
-        12 | 13 | 22 | 23 | 26 | 27 | 42 | 43 | 44 | 45 => true,
-        _ => false,
-    }
-}
-
 // Where a case says how long the buffer is.
 fn room_at(op: u8) -> usize {
     if op < 14 {

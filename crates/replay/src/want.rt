@@ -3,6 +3,7 @@
 use ffi::Bytes16;
 use ffi::CAnswer;
 use ffi::CCiphered;
+use ffi::CKeys;
 
 // No place: no answer is as long.
 const NONE: usize = 0xffff_ffff_ffff_ffff;
@@ -31,6 +32,14 @@ pub fn bytes(want: &[u8], at: usize, x: &[u8]) -> usize {
 pub fn block(want: &[u8], at: usize, x: Bytes16) -> usize {
     let b = x.bytes;
     bytes(want, at, &b)
+}
+
+pub fn keys(want: &[u8], at: usize, k: CKeys) -> usize {
+    let s_enc = k.s_enc;
+    let s_mac1 = k.s_mac1;
+    let s_mac2 = k.s_mac2;
+    let p = bytes(want, bytes(want, at, &s_enc), &s_mac1);
+    bytes(want, p, &s_mac2)
 }
 
 pub fn flag(want: &[u8], at: usize, x: bool) -> usize {
