@@ -6,11 +6,7 @@ use ffi::CCiphered;
 use ffi::CKeys;
 
 // No place: no answer is as long.
-const NONE: usize = 0xffff_ffff_ffff_ffff;
-
-pub fn nothing() -> usize {
-    NONE
-}
+pub const NONE: usize = 0xffff_ffff_ffff_ffff;
 
 pub fn byte(want: &[u8], at: usize, x: u8) -> usize {
     if at < want.len() {
@@ -54,12 +50,8 @@ fn wide(x: u16) -> usize {
     x as usize
 }
 
-fn low(want: &[u8], at: usize, x: usize) -> usize {
-    byte(want, at, (x % 256) as u8)
-}
-
 fn two(want: &[u8], at: usize, x: usize) -> usize {
-    low(want, low(want, at, x), x / 256)
+    byte(want, byte(want, at, (x % 256) as u8), (x / 256 % 256) as u8)
 }
 
 pub fn short(want: &[u8], at: usize, x: u16) -> usize {
