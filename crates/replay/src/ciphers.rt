@@ -2,15 +2,6 @@
 use super::given;
 use super::want;
 
-fn derived(w: &[u8], x: &[u8]) -> usize {
-    let k = ffi::malstrink_derive(given::sixteen(x), given::eight(given::from(x, 16)));
-    let s_enc = k.s_enc;
-    let s_mac1 = k.s_mac1;
-    let s_mac2 = k.s_mac2;
-    let p = want::bytes(w, want::bytes(w, 0, &s_enc), &s_mac1);
-    want::bytes(w, p, &s_mac2)
-}
-
 // Three blocks of 16.
 fn keys(op: u8, x: &[u8], w: &[u8]) -> usize {
     let k = given::sixteen(x);
@@ -21,7 +12,7 @@ fn keys(op: u8, x: &[u8], w: &[u8]) -> usize {
     match op {
         14 => want::block(w, 0, ffi::malstrink_aes_encrypt(k, y)),
         15 => want::block(w, 0, ffi::malstrink_aes_decrypt(k, y)),
-        16 => derived(w, x),
+        16 => want::keys(w, 0, ffi::malstrink_derive(k, a)),
         17 => want::block(w, 0, ffi::malstrink_client_cryptogram(k, a, b)),
         18 => want::block(w, 0, ffi::malstrink_server_cryptogram(k, a, b)),
         19 => want::block(w, 0, ffi::malstrink_initial_rmac(k, y, z)),

@@ -20,16 +20,13 @@ fn read(buf: &mut [u8], n: usize) -> bool {
 
 // Whether the call's answer is the one wanted.
 fn agrees(op: u8, x: &[u8], w: &[u8]) -> bool {
-    if room::is_lent(op) {
-        return room::call(op, x, w) == w.len();
-    }
-    if op < 14 {
-        return frames::call(op, x, w) == w.len();
-    }
-    if op < 28 {
-        return ciphers::call(op, x, w) == w.len();
-    }
-    sessions::call(op, x, w) == w.len()
+    let end = match op {
+        12 | 13 | 22 | 23 | 26 | 27 | 42..=45 => room::call(op, x, w),
+        0..=11 => frames::call(op, x, w),
+        14..=25 => ciphers::call(op, x, w),
+        _ => sessions::call(op, x, w),
+    };
+    end == w.len()
 }
 
 fn judged(op: u8, x: &[u8; 1024], n: usize, w: &[u8; 1024], m: usize) -> bool {

@@ -19,13 +19,6 @@ fn filled() -> [u8; 1024]
     b
 }
 
-pub fn is_lent(op: u8) -> bool {
-    match op {
-        12 | 13 | 22 | 23 | 26 | 27 | 42 | 43 | 44 | 45 => true,
-        _ => false,
-    }
-}
-
 // Where a case says how long the buffer is.
 fn room_at(op: u8) -> usize {
     if op < 14 {
@@ -51,7 +44,7 @@ fn answer(op: u8, x: &[u8], w: &[u8], out: &mut [u8]) -> usize {
 
 fn lent(op: u8, x: &[u8], w: &[u8], out: &mut [u8], room: usize) -> usize {
     if out.len() < room {
-        return want::nothing();
+        return want::NONE;
     }
     answer(op, x, w, &mut out[..room])
 }
@@ -59,16 +52,13 @@ fn lent(op: u8, x: &[u8], w: &[u8], out: &mut [u8], room: usize) -> usize {
 // The buffer, and 16 bytes more.
 fn left(w: &[u8], at: usize, out: &[u8; 1024], room: usize) -> usize {
     if 1000 < room {
-        return want::nothing();
+        return want::NONE;
     }
     want::bytes(w, at, given::first(out, room + 16))
 }
 
 pub fn call(op: u8, x: &[u8], w: &[u8]) -> usize {
     let room = given::four(given::from(x, room_at(op)));
-    if 1000 < room {
-        return want::nothing();
-    }
     let mut out = filled();
     let p = lent(op, x, w, &mut out, room);
     left(w, p, &out, room)

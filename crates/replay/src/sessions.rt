@@ -48,14 +48,6 @@ fn session_of(x: &[u8]) -> CSession {
     }
 }
 
-fn keys_like(w: &[u8], at: usize, k: CKeys) -> usize {
-    let s_enc = k.s_enc;
-    let s_mac1 = k.s_mac1;
-    let s_mac2 = k.s_mac2;
-    let p = want::bytes(w, want::bytes(w, at, &s_enc), &s_mac1);
-    want::bytes(w, p, &s_mac2)
-}
-
 fn numbers_like(w: &[u8], at: usize, s: CSession) -> usize {
     let rnd_a = s.rnd_a;
     let rnd_b = s.rnd_b;
@@ -70,7 +62,7 @@ fn session_like(w: &[u8], at: usize, s: CSession) -> usize {
     let chain = s.chain;
     let p = want::byte(w, want::byte(w, at, s.end), s.state);
     let q = numbers_like(w, want::bytes(w, p, &scbk), s);
-    want::bytes(w, keys_like(w, q, keys), &chain)
+    want::bytes(w, want::keys(w, q, keys), &chain)
 }
 
 fn stepped(w: &[u8], s: CStepped) -> usize {
@@ -135,7 +127,7 @@ fn secure(op: u8, all: &[u8], w: &[u8]) -> usize {
             let k = ffi::malstrink_session_keys(s);
             let answer = k.answer;
             let keys = k.keys;
-            keys_like(w, want::answer(w, 0, answer), keys)
+            want::keys(w, want::answer(w, 0, answer), keys)
         }
         _ => block_answer(w, ffi::malstrink_session_last_other_mac(s)),
     }

@@ -3,13 +3,10 @@
 use ffi::Bytes16;
 use ffi::CAnswer;
 use ffi::CCiphered;
+use ffi::CKeys;
 
 // No place: no answer is as long.
-const NONE: usize = 0xffff_ffff_ffff_ffff;
-
-pub fn nothing() -> usize {
-    NONE
-}
+pub const NONE: usize = 0xffff_ffff_ffff_ffff;
 
 pub fn byte(want: &[u8], at: usize, x: u8) -> usize {
     if at < want.len() {
@@ -33,6 +30,14 @@ pub fn block(want: &[u8], at: usize, x: Bytes16) -> usize {
     bytes(want, at, &b)
 }
 
+pub fn keys(want: &[u8], at: usize, k: CKeys) -> usize {
+    let s_enc = k.s_enc;
+    let s_mac1 = k.s_mac1;
+    let s_mac2 = k.s_mac2;
+    let p = bytes(want, bytes(want, at, &s_enc), &s_mac1);
+    bytes(want, p, &s_mac2)
+}
+
 pub fn flag(want: &[u8], at: usize, x: bool) -> usize {
     if x {
         byte(want, at, 1)
@@ -45,12 +50,8 @@ fn wide(x: u16) -> usize {
     x as usize
 }
 
-fn low(want: &[u8], at: usize, x: usize) -> usize {
-    byte(want, at, (x % 256) as u8)
-}
-
 fn two(want: &[u8], at: usize, x: usize) -> usize {
-    low(want, low(want, at, x), x / 256)
+    byte(want, byte(want, at, (x % 256) as u8), (x / 256 % 256) as u8)
 }
 
 pub fn short(want: &[u8], at: usize, x: u16) -> usize {
