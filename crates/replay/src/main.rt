@@ -1,6 +1,6 @@
-// Stored cases beside the proved calls. Standard input has a part for each call: its number, how many cases there are, its name; then
-// the cases, each what the call is handed and the answer that the oracle gives (oracle/store writes them). A line for each call tells
-// how many of its cases agree.
+// Stored cases beside the proved calls. Standard input has a part for each call: its number, with 128 added where the call is lent a
+// buffer, how many cases there are, its name; then the cases, each what the call is handed and the answer that the oracle gives
+// (oracle/store writes them). A line for each call tells how many of its cases agree.
 mod ciphers;
 mod frames;
 mod given;
@@ -20,13 +20,16 @@ fn read(buf: &mut [u8], n: usize) -> bool {
 
 // Whether the call's answer is the one wanted.
 fn agrees(op: u8, x: &[u8], w: &[u8]) -> bool {
-    let end = match op {
-        12 | 13 | 22 | 23 | 26 | 27 | 42..=45 => room::call(op, x, w),
-        0..=11 => frames::call(op, x, w),
-        14..=25 => ciphers::call(op, x, w),
-        _ => sessions::call(op, x, w),
-    };
-    end == w.len()
+    if 127 < op {
+        return room::call(op - 128, x, w) == w.len();
+    }
+    if op < 14 {
+        return frames::call(op, x, w) == w.len();
+    }
+    if op < 28 {
+        return ciphers::call(op, x, w) == w.len();
+    }
+    sessions::call(op, x, w) == w.len()
 }
 
 fn judged(op: u8, x: &[u8; 1024], n: usize, w: &[u8; 1024], m: usize) -> bool {

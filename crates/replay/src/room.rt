@@ -32,14 +32,22 @@ fn room_at(op: u8) -> usize {
 
 // All of the answer but the buffer, which comes last.
 fn answer(op: u8, x: &[u8], w: &[u8], out: &mut [u8]) -> usize {
-    match op {
-        12 | 13 => frames::build(op, x, w, out),
-        22 | 23 => ciphers::pad(op, x, w, out),
-        26 | 27 => ciphers::cbc(op, x, w, out),
-        44 => sessions::seal(x, w, out),
-        45 => sessions::unseal(x, w, out),
-        _ => sessions::on_session(op, x, w, out),
+    if op < 14 {
+        return frames::build(op, x, w, out);
     }
+    if op < 24 {
+        return ciphers::pad(op, x, w, out);
+    }
+    if op < 28 {
+        return ciphers::cbc(op, x, w, out);
+    }
+    if op < 44 {
+        return sessions::on_session(op, x, w, out);
+    }
+    if op == 44 {
+        return sessions::seal(x, w, out);
+    }
+    sessions::unseal(x, w, out)
 }
 
 fn lent(op: u8, x: &[u8], w: &[u8], out: &mut [u8], room: usize) -> usize {

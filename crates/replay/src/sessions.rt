@@ -85,24 +85,43 @@ fn block_answer(w: &[u8], b: CBlockAnswer) -> usize {
     want::bytes(w, want::answer(w, 0, answer), &block)
 }
 
-// The handshake, at either end: the session, then what the call is handed.
-fn handshake(op: u8, all: &[u8], w: &[u8]) -> usize {
+// The handshake at the controller's end: the session, then what the call is handed.
+fn controller(op: u8, all: &[u8], w: &[u8]) -> usize {
     let s = session_of(all);
     let x = given::from(all, 106);
-    let a = given::eight(x);
-    let b = given::eight(given::from(x, 8));
-    let block = given::sixteen(x);
     match op {
-        31 => stepped(w, ffi::malstrink_session_challenge(s, a)),
+        31 => stepped(w, ffi::malstrink_session_challenge(s, given::eight(x))),
         32 => {
+            let b = given::eight(given::from(x, 8));
             let client = given::sixteen(given::from(x, 16));
-            stepped(w, ffi::malstrink_session_receive_ccrypt(s, a, b, client))
+            stepped(
+                w,
+                ffi::malstrink_session_receive_ccrypt(s, given::eight(x), b, client),
+            )
         }
         33 => block_answer(w, ffi::malstrink_session_server_cryptogram(s)),
         34 => block_answer(w, ffi::malstrink_session_initial_rmac(s)),
-        35 => stepped(w, ffi::malstrink_session_confirm_rmac_i(s, block)),
-        36 => stepped_block(w, ffi::malstrink_session_receive_challenge(s, a, b)),
-        _ => stepped_block(w, ffi::malstrink_session_receive_scrypt(s, block)),
+        _ => stepped(
+            w,
+            ffi::malstrink_session_confirm_rmac_i(s, given::sixteen(x)),
+        ),
+    }
+}
+
+fn reader(op: u8, all: &[u8], w: &[u8]) -> usize {
+    let s = session_of(all);
+    let x = given::from(all, 106);
+    if op == 36 {
+        let b = given::eight(given::from(x, 8));
+        stepped_block(
+            w,
+            ffi::malstrink_session_receive_challenge(s, given::eight(x), b),
+        )
+    } else {
+        stepped_block(
+            w,
+            ffi::malstrink_session_receive_scrypt(s, given::sixteen(x)),
+        )
     }
 }
 
@@ -203,6 +222,7 @@ pub fn call(op: u8, x: &[u8], w: &[u8]) -> usize {
         30 => session_like(w, 0, ffi::malstrink_session_wipe(session_of(x))),
         38 | 39 | 40 | 41 => secure(op, x, w),
         46 => payload_test(x, w),
-        _ => handshake(op, x, w),
+        36 | 37 => reader(op, x, w),
+        _ => controller(op, x, w),
     }
 }

@@ -1,6 +1,6 @@
 //! Keeps some cases of every call, with the oracle's answers, for the program of crates/replay to run.
 use crate::cases::Random;
-use crate::wire::{NAMES, refuses};
+use crate::wire::{NAMES, lends, refuses};
 use std::collections::BTreeMap;
 
 /// The most that the program takes of a case, each way.
@@ -50,7 +50,7 @@ impl Store {
         let (mut all, mut lines) = (Vec::new(), String::new());
         for (op, name) in NAMES.iter().enumerate() {
             let kept: Vec<&Case> = self.kinds.iter().filter(|k| k.0.0 as usize == op).flat_map(|k| &k.1.1).collect();
-            all.push(op as u8);
+            all.push(op as u8 | if lends(op as u8) { 128 } else { 0 });
             all.extend_from_slice(&(kept.len() as u16).to_le_bytes());
             all.push(name.len() as u8);
             all.extend_from_slice(name.as_bytes());

@@ -309,14 +309,15 @@ impl Ends {
     }
 }
 
-/// A handshake, then frames of which some are replayed, spoiled on the way, overtaken, lost or cross each other. Once the ends have
-/// parted, a few frames are tried and two new sessions begin.
-fn conversation(c: &mut Compare, r: &mut Random, frames: usize) {
+/// A handshake, then frames of which some are replayed, sent back, spoiled on the way, overtaken and, with losses, lost or crossing each
+/// other. Once the ends have parted, a few frames are tried and two new sessions begin.
+fn conversation(c: &mut Compare, r: &mut Random, frames: usize, losses: bool) {
     let mut ends = Ends::secured(c, r);
     let mut sent: Vec<Vec<u8>> = Vec::new();
     let mut parted = 0;
     for _ in 0..frames {
         let from = r.below(2);
+        let mut opens = ends.together();
         let frame = ends.send(c, r, from);
         let need = hidden_len(&frame);
         match r.below(24) {
@@ -342,16 +343,19 @@ fn conversation(c: &mut Compare, r: &mut Random, frames: usize) {
                 ends.take(c, 1 - from, &later, 200);
                 continue;
             }
-            7 if r.below(4) == 0 => continue,
-            8 if r.below(4) == 0 => {
+            7 => {
+                ends.take(c, from, &frame, need);
+            }
+            8 if losses && r.below(4) == 0 => continue,
+            9 if losses && r.below(4) == 0 => {
                 let other = ends.send(c, r, 1 - from);
                 ends.take(c, from, &other, 200);
+                opens = false;
             }
             _ => {}
         }
-        let was = ends.together();
         let refusal = ends.take(c, 1 - from, &frame, need + r.below(3));
-        assert!(was || refusal != 0 || ends.together());
+        assert!(!opens || refusal == 0 && ends.together(), "the Rust does not open what it sealed");
         sent.push(frame);
         if !ends.together() {
             parted += 1;
@@ -436,9 +440,9 @@ pub fn all(c: &mut Compare, r: &mut Random, count: u64) {
     }
     for _ in 0..count / 200 {
         let frames = 4 + r.below(20);
-        conversation(c, r, frames);
+        conversation(c, r, frames, true);
     }
     for _ in 0..4 {
-        conversation(c, r, (count / 600) as usize);
+        conversation(c, r, (count / 600) as usize, false);
     }
 }

@@ -61,6 +61,11 @@ pub fn refuses(op: u8) -> bool {
     !matches!(op, CHECKSUM8 | CRC16 | AES_ENCRYPT..=COMPLEMENT | CBC_MAC | NEW | NEW_READER | WIPE)
 }
 
+/// Whether a call is lent a buffer.
+pub fn lends(op: u8) -> bool {
+    matches!(op, BUILD | BUILD_BODY | PAD_MAC | PAD_DATA | ENCRYPT | DECRYPT | SEAL_DATA..=UNSEAL)
+}
+
 pub const NAMES: [&str; 47] = [
     "checksum8", "crc16", "address pd", "address reply", "sqn new", "sqn next", "control decode", "control encode",
     "scs type", "block", "head", "parse", "build", "build body", "aes encrypt", "aes decrypt", "derive", "client cryptogram",
