@@ -1,5 +1,6 @@
 //! timing WHAT [PART]: times the proved calls beside the Rust and OpenSSL, and prints the tables. WHAT says what the proved side is.
-//! An answer is compared with the Rust's before it is timed. With PART, only the rows that have it in their names.
+//! An answer is compared with the Rust's before it is timed. With PART, only the rows that have it in
+//! their names; with `lengths`, only the ratios of short frames of every length.
 mod clock;
 mod openssl;
 mod ours;
@@ -28,9 +29,15 @@ fn main() {
     };
     let part = std::env::args().nth(2).unwrap_or_default();
     println!("Proved side: {what}. Best of {} rounds.\n", clock::ROUNDS);
+    if part == "lengths" {
+        table::print_lengths(&rows::every_length(128));
+        return;
+    }
     table::print(&rows::beside(&part), &child(true), &child(false));
     if part.is_empty() {
         println!();
         table::print_growth(&rows::GROWING, &rows::growth());
+        println!();
+        table::print_lengths(&rows::every_length(128));
     }
 }

@@ -201,3 +201,15 @@ pub fn growth() -> Vec<(usize, Vec<Times>)> {
     let at = |n: usize| vec![parse(n + 8, true), parse(n + 7, false), build(n + 8, true), build(n + 7, false), mac(n), encrypt(n), decrypt(n)];
     [0, 16, 64, 256, 512, 1024, 1400].map(|n| (n, at(n))).into()
 }
+
+/// The ratio of every frame of up to `longest` bytes.
+pub fn every_length(longest: usize) -> Vec<(&'static str, Vec<(usize, f64)>)> {
+    let over = |name, shortest: usize, call: fn(usize, bool) -> Times, crc| {
+        let ratio = |n| {
+            let times = call(n, crc);
+            (n, times[0] / times[1])
+        };
+        (name, (shortest..=longest).map(ratio).collect())
+    };
+    vec![over(GROWING[0], 8, parse, true), over(GROWING[1], 7, parse, false), over(GROWING[2], 8, build, true), over(GROWING[3], 7, build, false)]
+}

@@ -48,3 +48,14 @@ pub fn print_growth(names: &[&str], lines: &[(usize, Vec<Vec<f64>>)]) {
     };
     println!("| ns a byte | {} |", from.iter().zip(to).map(slope).collect::<Vec<_>>().join(" | "));
 }
+
+/// The largest ratio over frames of every length, and the lengths where it is above 1.
+pub fn print_lengths(calls: &[(&str, Vec<(usize, f64)>)]) {
+    println!("| frames of every length to {} | largest ratio | at | above 1 at |", calls[0].1.last().unwrap().0);
+    println!("|---|---|---|---|");
+    for (name, ratios) in calls {
+        let (at, most) = ratios.iter().max_by(|a, b| a.1.total_cmp(&b.1)).unwrap();
+        let above: Vec<_> = ratios.iter().filter(|r| r.1 > 1.0).map(|r| r.0.to_string()).collect();
+        println!("| {name} | {most:.2} | {at} | {} |", if above.is_empty() { "none".to_string() } else { above.join(", ") });
+    }
+}
