@@ -1,1 +1,3 @@
 pub mod Args
+pub mod Taking
+pub mod Sealings

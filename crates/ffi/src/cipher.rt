@@ -26,7 +26,7 @@ pub struct CChain {
     pub calls: usize,
 }
 
-fn length_c(a: LengthAnswer) -> CAnswer
+pub(crate) fn length_c(a: LengthAnswer) -> CAnswer
     ensures { λ r. ⌜ r ≡ cAnswer (lengthAnswer a) ⌝ }
 {
     match a {
@@ -35,7 +35,7 @@ fn length_c(a: LengthAnswer) -> CAnswer
     }
 }
 
-fn ciphered_c(c: Ciphered) -> CCiphered
+pub(crate) fn ciphered_c(c: Ciphered) -> CCiphered
     ensures { λ r. ⌜ r ≡ cCiphered c ⌝ }
 {
     let a = c.answer;

@@ -16,10 +16,28 @@ pub struct Bytes8 {
 }
 
 #[repr(C)]
+pub struct Bytes4 {
+    pub bytes: [u8; 4],
+}
+
+#[repr(C)]
 pub struct CKeys {
     pub s_enc: [u8; 16],
     pub s_mac1: [u8; 16],
     pub s_mac2: [u8; 16],
+}
+
+pub(crate) fn keys_c(keys: SessionKeys) -> CKeys
+    ensures { λ r. ⌜ r ≡ cKeys keys ⌝ }
+{
+    let s_enc = keys.s_enc;
+    let s_mac1 = keys.s_mac1;
+    let s_mac2 = keys.s_mac2;
+    CKeys {
+        s_enc: s_enc,
+        s_mac1: s_mac1,
+        s_mac2: s_mac2,
+    }
 }
 
 #[no_mangle]
@@ -48,15 +66,7 @@ pub extern "C" fn malstrink_derive(scbk: Bytes16, rnd_a: Bytes8) -> CKeys
 {
     let k = scbk.bytes;
     let a = rnd_a.bytes;
-    let keys = SessionKeys::derive(k, a);
-    let s_enc = keys.s_enc;
-    let s_mac1 = keys.s_mac1;
-    let s_mac2 = keys.s_mac2;
-    CKeys {
-        s_enc: s_enc,
-        s_mac1: s_mac1,
-        s_mac2: s_mac2,
-    }
+    keys_c(SessionKeys::derive(k, a))
 }
 
 #[no_mangle]

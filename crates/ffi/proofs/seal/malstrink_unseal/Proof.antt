@@ -1,0 +1,38 @@
+-- `malstrink_unseal` meets its contract: its callee's, where the session can be read (proofs/Sealings).
+-- Assumes nothing.
+use mathlib.Core.Path.{ap, _∙_}
+use Rattle.ffi.proofs.Sealings.{unseal-read, unseal-not}
+use Rattle.ffi.specs.Sealing.{UnsealedC}
+use borrow.Author.Needs.{needs}
+use Rattle.ffi.proofs.seal.malstrink_unseal.Statement.{statement}
+use Rattle.ffi.proofs.seal.malstrink_unseal.Tie as tie
+
+returns : tie.Need-returns
+returns c =
+    let t = c .before .before .before .before .before .before .before .before .take in
+    let a = c .before .before .before .before .before .before .before .before .before .before .before .args in
+    let d = c .before .before .before .unseal in
+    let g = unseal-read _ (t .result) (t .ensures) (c .before .before .before .before .before .enum-told .given .1) (a .frame .now) (a .work .now) (d .result) _ (d .ensures) in
+    (c .unsealed-c .ensures ∙ ap (λ (x : UnsealedC). x .told) g, ap (λ (x : UnsealedC). x .work) g)
+
+returns-2 : tie.Need-returns-2
+returns-2 c =
+    let t = c .before .before .before .before .before .take in
+    let a = c .before .before .before .before .before .before .before .before .args in
+    let w = c .before .before .outcome .given in
+    let g = unseal-not _ (t .result) (t .ensures) (w .0 .0) (w .1) (a .frame .now) (a .work .now) in
+    (c .place-c .ensures ∙ ap (λ (x : UnsealedC). x .told) g, ap (λ (x : UnsealedC). x .work) g)
+
+pub malstrink-unseal-spec : {M : Type 1} → statement M
+malstrink-unseal-spec =
+    tie.close
+    (tie.spec
+    (λ c κs. search needs)
+    (λ c. search needs)
+    (λ c κs. search needs)
+    (λ c κs. search needs)
+    (λ c. search needs)
+    (λ c κs. search needs)
+    (λ c. search needs)
+    returns
+    returns-2)

@@ -1,0 +1,153 @@
+-- Sessions as C has them: by value, with numbers for end and state. A call on one that cannot be read answers 16 and hands it back.
+-- Assumes nothing.
+use Prim.Native.Nat.{ℕ}
+use mathlib.Core.List.{List, []}
+use lib.Dec.{eqb}
+use Rattle.laws.specs.Answer.{Answer, Answer.given, Answer.refused, andThen, choose}
+use Rattle.laws.specs.Bytes.{zeros}
+use Rattle.refusal.specs.Paper.{refusalOf}
+use Rattle.refusal.specs.declared.Refusal.{Refusal}
+use Rattle.secure_keys.specs.declared.crypto.SessionKeys.{SessionKeys}
+use Rattle.secure_cipher.specs.Cbc.{Done}
+use Rattle.secure_session.specs.declared.session.End.{End}
+use Rattle.secure_session.specs.declared.session.End.the-variants.{Controller, Reader}
+use Rattle.secure_session.specs.declared.session.State.{State}
+use Rattle.secure_session.specs.declared.session.State.the-variants.{Disconnected, Challenged, Cryptogrammed, Secure}
+use Rattle.secure_session.specs.declared.session.Session.{Session}
+use Rattle.secure_session.specs.declared.session.Outcome.{Outcome}
+use Rattle.secure_session.specs.declared.session.SteppedBlock.{SteppedBlock}
+use Rattle.secure_session.specs.declared.session.BlockAnswer.{BlockAnswer}
+use Rattle.secure_session.specs.declared.session.KeysAnswer.{KeysAnswer}
+use Rattle.secure_session.specs.Session.{endNumber, stateNumber}
+use Rattle.secure_session.specs.Handshake.{Step, outcome, blockBeside}
+use Rattle.secure_session.specs.Channel.{keysBeside}
+use Rattle.ffi.specs.Answers.{cGiven, cRefused, cRefusal}
+use Rattle.ffi.specs.Ciphers.{cKeys}
+use Rattle.ffi.specs.declared.answer.CAnswer.{CAnswer}
+use Rattle.ffi.specs.declared.keys.CKeys.{CKeys}
+use Rattle.ffi.specs.declared.session.CSession.{CSession}
+use Rattle.ffi.specs.declared.session.CStepped.{CStepped}
+use Rattle.ffi.specs.declared.session.CSteppedBlock.{CSteppedBlock}
+use Rattle.ffi.specs.declared.session.CBlockAnswer.{CBlockAnswer}
+use Rattle.ffi.specs.declared.session.EndRead.{EndRead}
+use Rattle.ffi.specs.declared.session.StateRead.{StateRead}
+use Rattle.ffi.specs.declared.session.Taken.{Taken}
+use Rattle.ffi.specs.declared.cipher.CCiphered.{CCiphered}
+use Rattle.ffi.specs.declared.channel.CKeysAnswer.{CKeysAnswer}
+
+-- ---- a session that comes in
+
+unfoldable pub endArg : ℕ → Answer End
+endArg n = choose (eqb n 0) (given Controller) (choose (eqb n 1) (given Reader) (refused 16 []))
+
+unfoldable pub stateArg : ℕ → Answer State
+stateArg n =
+    choose (eqb n 0) (given Disconnected)
+    (choose (eqb n 1) (given Challenged)
+    (choose (eqb n 2) (given Cryptogrammed)
+    (choose (eqb n 3) (given Secure)
+    (refused 16 []))))
+
+abbrev pub keysArg : CKeys → SessionKeys
+keysArg k = record { «s_enc» = k .«s_enc»; «s_mac1» = k .«s_mac1»; «s_mac2» = k .«s_mac2» }
+
+abbrev pub sessionWith : CSession → End → State → Session
+sessionWith c e t =
+    record { end = e; state = t; scbk = c .scbk; «rnd_a» = c .«rnd_a»; «rnd_b» = c .«rnd_b»; cuid = c .cuid; keys = keysArg (c .keys); chain = c .chain }
+
+-- 16 where end is above 1 or state above 3
+unfoldable pub sessionArg : CSession → Answer Session
+sessionArg c = andThen (endArg (c .end)) (λ e. andThen (stateArg (c .state)) (λ t. given (sessionWith c e t)))
+
+-- what comes of a session that can be read, and of one that cannot
+unfoldable pub reading : {B : Type 0} → Answer Session → (Session → B) → (ℕ → List ℕ → B) → B
+reading (given s) f g = f s
+reading (refused n vs) f g = g n vs
+
+-- ---- a session that goes out
+
+abbrev pub cSession : Session → CSession
+cSession s =
+    record { end = endNumber (s .end); state = stateNumber (s .state); scbk = s .scbk; «rnd_a» = s .«rnd_a»; «rnd_b» = s .«rnd_b»; cuid = s .cuid; keys = cKeys (s .keys); chain = s .chain }
+
+abbrev pub noKeysC : CKeys
+noKeysC = record { «s_enc» = zeros 16; «s_mac1» = zeros 16; «s_mac2» = zeros 16 }
+
+-- everything zero but the byte that says which end it is
+abbrev pub cWiped : CSession → CSession
+cWiped c =
+    record { end = c .end; state = 0; scbk = zeros 16; «rnd_a» = zeros 8; «rnd_b» = zeros 8; cuid = zeros 8; keys = noKeysC; chain = zeros 16 }
+
+-- ---- answers
+
+-- yes, or the refusal; what was given stands beside it
+abbrev pub cYes : {A : Type 0} → Answer A → CAnswer
+cYes (given a) = cGiven 0
+cYes (refused n vs) = cRefused n vs
+
+abbrev pub cStepped : Step (Unit {0}) → CStepped
+cStepped d = record { answer = cYes (d .answer); session = cSession (d .session) }
+
+abbrev pub cSteppedBlock : Step (List ℕ) → CSteppedBlock
+cSteppedBlock d = record { answer = cYes (d .answer); block = blockBeside (d .answer); session = cSession (d .session) }
+
+abbrev pub cBlockAnswer : Answer (List ℕ) → CBlockAnswer
+cBlockAnswer x = record { answer = cYes x; block = blockBeside x }
+
+abbrev pub cKeysAnswer : Answer SessionKeys → CKeysAnswer
+cKeysAnswer x = record { answer = cYes x; keys = cKeys (keysBeside x) }
+
+-- ---- the calls on what C hands in: one form for each kind of answer
+
+unfoldable pub steppedArg : CSession → (Session → Step (Unit {0})) → CStepped
+steppedArg c f = reading (sessionArg c) (λ s. cStepped (f s)) (λ n vs. record { answer = cRefused n vs; session = c })
+
+unfoldable pub steppedBlockArg : CSession → (Session → Step (List ℕ)) → CSteppedBlock
+steppedBlockArg c f =
+    reading (sessionArg c) (λ s. cSteppedBlock (f s)) (λ n vs. record { answer = cRefused n vs; block = zeros 16; session = c })
+
+unfoldable pub blockAnswerArg : CSession → (Session → Answer (List ℕ)) → CBlockAnswer
+blockAnswerArg c f = cBlockAnswer (andThen (sessionArg c) f)
+
+unfoldable pub keysAnswerArg : CSession → (Session → Answer SessionKeys) → CKeysAnswer
+keysAnswerArg c f = cKeysAnswer (andThen (sessionArg c) f)
+
+-- `o` is the buffer as it came
+unfoldable pub doneArg : CSession → List ℕ → (Session → Done) → Done
+doneArg c o f = reading (sessionArg c) f (λ n vs. record { answer = refused n vs; out = o; steps = 0 })
+
+-- ---- the code's kinds
+
+abbrev pub endRead : EndRead → Answer End
+endRead (EndRead.Good e) = given e
+endRead (EndRead.Refused e) = refusalOf e
+
+abbrev pub stateRead : StateRead → Answer State
+stateRead (StateRead.Good t) = given t
+stateRead (StateRead.Refused e) = refusalOf e
+
+abbrev pub taken : Taken → Answer Session
+taken r = outcome (r .outcome) (r .session)
+
+abbrev pub cOutcome : Outcome → CAnswer
+cOutcome Outcome.Done = cGiven 0
+cOutcome (Outcome.Refused e) = cRefusal e
+
+-- as the code has them: what stands beside the outcome is told as it is
+abbrev pub toldBlock : SteppedBlock → CSteppedBlock
+toldBlock r = record { answer = cOutcome (r .outcome); block = r .block; session = cSession (r .session) }
+
+abbrev pub toldAnswer : BlockAnswer → CBlockAnswer
+toldAnswer r = record { answer = cOutcome (r .outcome); block = r .block }
+
+abbrev pub toldKeys : KeysAnswer → CKeysAnswer
+toldKeys r = record { answer = cOutcome (r .outcome); keys = cKeys (r .keys) }
+
+abbrev pub noStep : CSession → Refusal → CStepped
+noStep c e = record { answer = cRefusal e; session = c }
+
+abbrev pub noSteppedBlock : CSession → Refusal → CSteppedBlock
+noSteppedBlock c e = record { answer = cRefusal e; block = zeros 16; session = c }
+
+abbrev pub noCiphered : Refusal → CCiphered
+noCiphered e = record { answer = cRefusal e; calls = 0 }
