@@ -5,6 +5,7 @@ mod clock;
 mod openssl;
 mod ours;
 mod rows;
+mod sealed;
 mod table;
 
 use std::process::Command;

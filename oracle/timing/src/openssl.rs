@@ -66,12 +66,34 @@ fn padded(n: usize) -> Vec<u8> {
     data
 }
 
+fn padded_mac(mut input: Vec<u8>) -> Vec<u8> {
+    if input.len() % 16 != 0 {
+        input.push(0x80);
+        input.resize(input.len().next_multiple_of(16), 0);
+    }
+    input
+}
+
 fn one(s: Side) -> f64 {
     least(vec![s])[0]
 }
 
+/// The blocks of a frame alone: the MAC of eight bytes and the payload, and the payload's own where `payload` is given.
+fn blocks_of<'a>(mac: &'a mut Cbc, mut payload: Option<&'a mut Cbc>, n: usize) -> Side<'a> {
+    let data = if payload.is_some() { padded(n) } else { bytes(n) };
+    let body = padded_mac([&bytes(8)[..], &data].concat());
+    let mut out = vec![0; body.len()];
+    side(move || {
+        if let Some(c) = &mut payload {
+            c.key(&KEY, &START);
+            c.run(hidden(&data), &mut out);
+        }
+        mac.mac(hidden(&body), &mut out)
+    })
+}
+
 pub fn rows() -> Vec<(String, f64)> {
-    let (mut forth, mut back, mut out) = (Cbc::new(true), Cbc::new(false), vec![0; 4096]);
+    let (mut forth, mut chain, mut back, mut out) = (Cbc::new(true), Cbc::new(true), Cbc::new(false), vec![0; 4096]);
     let mut block = |c: &mut Cbc| {
         c.key(hidden(&KEY), &[0; 16]);
         c.run(hidden(&START), &mut out);
@@ -94,6 +116,12 @@ pub fn rows() -> Vec<(String, f64)> {
         let hid = encrypt_data(&KEY, &START, &bytes(n));
         rows.push((format!("decrypt data, {}", with_commas(n)), one(side(|| call(&mut back, &hid)))));
         assert_eq!(out[..data.len()], data);
+    }
+    for (kind, encrypt) in [("plain", false), ("encrypted", true)] {
+        for n in [0, 64, 1400] {
+            rows.push((format!("seal, {kind}, {}", with_commas(n)), one(blocks_of(&mut forth, encrypt.then_some(&mut chain), n))));
+            rows.push((format!("unseal, {kind}, {}", with_commas(n)), one(blocks_of(&mut forth, encrypt.then_some(&mut back), n))));
+        }
     }
     rows
 }

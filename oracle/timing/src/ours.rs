@@ -45,6 +45,39 @@ pub struct Ciphered {
     pub calls: usize,
 }
 
+/// Its keys are S-ENC, S-MAC1 and S-MAC2.
+#[repr(C)]
+#[derive(Clone, Copy, PartialEq, Debug)]
+pub struct Session {
+    pub end: u8,
+    pub state: u8,
+    pub scbk: [u8; 16],
+    pub rnd_a: [u8; 8],
+    pub rnd_b: [u8; 8],
+    pub cuid: [u8; 8],
+    pub keys: [[u8; 16]; 3],
+    pub chain: [u8; 16],
+}
+
+#[repr(C)]
+#[derive(Clone, Copy)]
+pub struct Sealed {
+    pub answer: Answer,
+    pub calls: usize,
+    pub session: Session,
+}
+
+#[repr(C)]
+#[derive(Clone, Copy)]
+pub struct Unsealed {
+    pub answer: Answer,
+    pub in_work: bool,
+    pub start: usize,
+    pub len: usize,
+    pub calls: usize,
+    pub session: Session,
+}
+
 #[repr(C)]
 #[derive(Clone, Copy)]
 struct Bytes16([u8; 16]);
@@ -88,6 +121,8 @@ unsafe extern "C" {
     fn malstrink_decrypt_data(
         to: *mut Ciphered, k0: u64, k1: u64, v0: u64, v1: u64, data: *const u8, data_n: usize, out: *mut u8, n: usize,
     ) -> *mut Ciphered;
+    fn malstrink_seal(to: *mut Sealed, s: Stacked<Session>, p: u64, data: *const u8, data_n: usize, out: *mut u8, n: usize) -> *mut Sealed;
+    fn malstrink_unseal(to: *mut Unsealed, s: Stacked<Session>, frame: *const u8, frame_n: usize, work: *mut u8, n: usize) -> *mut Unsealed;
 }
 
 fn halves(b: &[u8; 16]) -> (u64, u64) {
@@ -141,4 +176,15 @@ pub fn encrypt_data(s_enc: &[u8; 16], iv: &[u8; 16], data: &[u8], out: &mut [u8]
 pub fn decrypt_data(s_enc: &[u8; 16], iv: &[u8; 16], data: &[u8], out: &mut [u8]) -> Ciphered {
     let ((k0, k1), (v0, v1)) = (halves(s_enc), halves(iv));
     told(|to| unsafe { malstrink_decrypt_data(to, k0, k1, v0, v1, data.as_ptr(), data.len(), out.as_mut_ptr(), out.len()) })
+}
+
+/// The packet is address, SQN, whether from the reader, whether encrypted, code.
+pub fn seal(session: &Session, [a, q, r, e, c]: [u8; 5], data: &[u8], out: &mut [u8]) -> Sealed {
+    let (packet, s) = (u64::from_le_bytes([a, q, r, e, c, 0, 0, 0]), *session);
+    told(|to| unsafe { malstrink_seal(to, stacked!(s), packet, data.as_ptr(), data.len(), out.as_mut_ptr(), out.len()) })
+}
+
+pub fn unseal(session: &Session, frame: &[u8], work: &mut [u8]) -> Unsealed {
+    let s = *session;
+    told(|to| unsafe { malstrink_unseal(to, stacked!(s), frame.as_ptr(), frame.len(), work.as_mut_ptr(), work.len()) })
 }

@@ -1,6 +1,7 @@
 //! What is timed.
 use crate::clock::{Side, least, side};
 use crate::ours;
+use crate::sealed::{sealing, unsealing};
 use crate::table::Row;
 use osdp::cipher::generic_array::GenericArray;
 use osdp::cipher::{BlockEncrypt, KeyInit};
@@ -41,7 +42,7 @@ fn rust<'a, R>(instructions: bool, call: impl FnMut() -> R + 'a) -> Side<'a> {
 }
 
 /// Ours, the Rust's, and the Rust's over the processor's AES where it has one.
-type Times = Vec<f64>;
+pub type Times = Vec<f64>;
 
 fn with_aes<'a, R, S>(ours: impl FnMut() -> R + 'a, theirs: impl FnMut() -> S + Copy + 'a) -> Times {
     let mut sides = vec![side(ours), rust(false, theirs)];
@@ -173,6 +174,13 @@ fn all() -> Vec<(String, Option<f64>, Call)> {
             }
         }
     }
+    for (name, call) in [("seal", sealing as fn(usize, bool) -> Times), ("unseal", unsealing)] {
+        for (kind, encrypt) in [("plain", false), ("encrypted", true)] {
+            for n in [0, 64, 1400] {
+                rows.push((format!("{name}, {kind}, {}", with_commas(n)), Some(0.35), Box::new(move || call(n, encrypt))));
+            }
+        }
+    }
     rows.push(("MAC of 1,440".into(), None, Box::new(|| mac(1440))));
     for (name, call) in [("encrypt data", encrypt as fn(usize) -> Times), ("decrypt data", decrypt)] {
         for n in [0, 64, 1400] {
@@ -194,11 +202,15 @@ pub fn beside(part: &str) -> Vec<Row> {
     all().into_iter().filter(|r| r.0.contains(part)).map(timed).collect()
 }
 
-pub const GROWING: [&str; 7] = ["parse, CRC", "parse, checksum", "build, CRC", "build, checksum", "MAC", "encrypt", "decrypt"];
+pub const GROWING: [&str; 8] =
+    ["parse, CRC", "parse, checksum", "build, CRC", "build, checksum", "seal, plain", "seal, encrypted", "unseal, plain", "unseal, encrypted"];
 
 /// How the cost grows with the payload: of n bytes, ours and the Rust's of each call.
 pub fn growth() -> Vec<(usize, Vec<Times>)> {
-    let at = |n: usize| vec![parse(n + 8, true), parse(n + 7, false), build(n + 8, true), build(n + 7, false), mac(n), encrypt(n), decrypt(n)];
+    let at = |n: usize| {
+        let frames = vec![parse(n + 8, true), parse(n + 7, false), build(n + 8, true), build(n + 7, false)];
+        [frames, vec![sealing(n, false), sealing(n, true), unsealing(n, false), unsealing(n, true)]].concat()
+    };
     [0, 16, 64, 256, 512, 1024, 1400].map(|n| (n, at(n))).into()
 }
 
