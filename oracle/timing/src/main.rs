@@ -1,6 +1,6 @@
 //! timing WHAT [PART]: times the proved calls beside the Rust and OpenSSL, and prints the tables. WHAT says what the proved side is.
-//! An answer is compared with the Rust's before it is timed. With PART, only the rows that have it in
-//! their names; with `lengths`, only the ratios of short frames of every length.
+//! An answer is compared with the Rust's before it is timed. With PART, only the rows that have it in their names; with `lengths`,
+//! only the ratios of short frames of every length.
 mod clock;
 mod openssl;
 mod ours;

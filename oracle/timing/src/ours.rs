@@ -108,7 +108,6 @@ macro_rules! stacked {
 #[link(name = "ffi", kind = "static")]
 unsafe extern "C" {
     fn malstrink_parse(to: *mut Parsed, frame: *const u8, n: usize) -> *mut Parsed;
-    #[allow(clippy::too_many_arguments)]
     fn malstrink_build(
         to: *mut Answer, packet: u64, block: *const u8, block_n: usize, data: *const u8, data_n: usize, mac: Stacked<Mac>, out: *mut u8, n: usize,
     ) -> *mut Answer;

@@ -44,9 +44,12 @@ fn rust<'a, R>(instructions: bool, call: impl FnMut() -> R + 'a) -> Side<'a> {
 /// Ours, the Rust's, and the Rust's over the processor's AES where it has one.
 pub type Times = Vec<f64>;
 
-fn with_aes<'a, R, S>(ours: impl FnMut() -> R + 'a, theirs: impl FnMut() -> S + Copy + 'a) -> Times {
+fn with_aes<'a, R, S: PartialEq>(ours: impl FnMut() -> R + 'a, theirs: impl Fn() -> S + Copy + 'a) -> Times {
     let mut sides = vec![side(ours), rust(false, theirs)];
     if osdp::has_instructions() {
+        let soft = theirs();
+        osdp::use_instructions(true);
+        assert!(theirs() == soft, "the Rust over the processor's AES answers otherwise");
         sides.push(rust(true, theirs));
     }
     least(sides)
@@ -112,9 +115,8 @@ fn mac(n: usize) -> Times {
 fn encrypt(n: usize) -> Times {
     let (data, mut out) = (bytes(n), vec![0; n / 16 * 16 + 16]);
     let theirs = || encrypt_data(&KEY, &START, hidden(&data));
-    let mut ours = || ours::encrypt_data(&KEY, &START, hidden(&data), hidden(&mut out));
     let answer = ours::Answer { refusal: 0, a: n / 16 * 16 + 16, b: 0 };
-    assert_eq!(ours(), ours::Ciphered { answer, calls: n / 16 + 1 });
+    assert_eq!(ours::encrypt_data(&KEY, &START, &data, &mut out), ours::Ciphered { answer, calls: n / 16 + 1 });
     assert_eq!(out, theirs());
     let ours = || ours::encrypt_data(&KEY, &START, hidden(&data), hidden(&mut out));
     with_aes(ours, theirs)
@@ -149,7 +151,11 @@ fn block_back() -> Times {
 /// 100 blocks apart.
 fn block_alone() -> Times {
     let long = bytes(3216);
-    let over = |n: usize| least(vec![side(|| ours::cbc_mac(hidden(&long[..n]), &START, &KEY, &KEY2))])[0];
+    let over = |n: usize| {
+        let ours = || ours::cbc_mac(hidden(&long[..n]), &START, &KEY, &KEY2);
+        assert_eq!(ours().full, cbc_mac(&long[..n], &START, &KEY, &KEY2));
+        least(vec![side(ours)])[0]
+    };
     let expanded = |instructions| {
         osdp::use_instructions(instructions);
         let c = osdp::Aes128::new(GenericArray::from_slice(&KEY));

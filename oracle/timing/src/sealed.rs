@@ -67,7 +67,8 @@ pub fn sealing(n: usize, encrypt: bool) -> Times {
     let data = bytes(n);
     let (mut a, mut b) = (theirs(), session(&theirs()));
     let mut out = vec![0; seal_one(&mut theirs(), encrypt, &data).len()];
-    for _ in 0..run(n) {
+    for i in 0..run(n) {
+        osdp::use_instructions(i % 2 == 1 && osdp::has_instructions());
         let frame = seal_one(&mut a, encrypt, &data);
         let r = ours::seal(&b, [ADDR, SQN, 0, encrypt.into(), CODE], &data, &mut out);
         assert_eq!(r.answer, ours::Answer { refusal: 0, a: frame.len(), b: 0 });
@@ -91,7 +92,8 @@ pub fn unsealing(n: usize, encrypt: bool) -> Times {
     let mut from = theirs();
     let frames: Vec<_> = (0..run(n)).map(|_| seal_one(&mut from, encrypt, &data)).collect();
     let (mut a, mut b, mut work) = (theirs(), session(&theirs()), vec![0; n / 16 * 16 + 16]);
-    for f in &frames {
+    for (i, f) in frames.iter().enumerate() {
+        osdp::use_instructions(i % 2 == 1 && osdp::has_instructions());
         assert_eq!(unseal_one(&mut a, f), data);
         let r = ours::unseal(&b, f, &mut work);
         assert_eq!(r.answer, ours::Answer { refusal: 0, a: 0, b: 0 });
