@@ -23,6 +23,7 @@ static void put16(uint16_t x) { put8((uint8_t)x); put8((uint8_t)(x >> 8)); }
 static void put64(uint64_t x) { for (int i = 0; i < 8; i++) put8((uint8_t)(x >> (8 * i))); }
 static void put_answer(MalstrinkAnswer a) { put8(a.refusal); put64(a.a); put64(a.b); }
 static uint32_t get32(const uint8_t *p) { return p[0] | p[1] << 8 | p[2] << 16 | (uint32_t)p[3] << 24; }
+static uint64_t get64(const uint8_t *p) { return get32(p) | (uint64_t)get32(p + 4) << 32; }
 
 /* What a lent buffer holds before the call; GUARD bytes more follow it, which no call may touch. */
 enum { GUARD = 16 };
@@ -87,6 +88,67 @@ static void cipher(uint8_t op, const uint8_t *in, size_t n) {
     free(out);
 }
 
+/* A session is bytes all through, in the order of its fields. */
+_Static_assert(sizeof(MalstrinkSession) == 106, "a session as it travels");
+static MalstrinkSession get_session(const uint8_t *p) { MalstrinkSession s; memcpy(&s, p, sizeof s); return s; }
+static void put_session(MalstrinkSession s) { put(&s, sizeof s); }
+static void put_stepped(MalstrinkStepped s) { put_answer(s.answer); put_session(s.session); }
+static void put_stepped_block(MalstrinkSteppedBlock s) { put_answer(s.answer); put(s.block, 16); put_session(s.session); }
+static void put_block(MalstrinkBlockAnswer b) { put_answer(b.answer); put(b.block, 16); }
+/* A slice without bytes may have any pointer. */
+static const uint8_t *slice(const uint8_t *p, size_t n) { return n ? p : NULL; }
+
+/* The session's calls that lend no buffer: the session, then what the call is handed. */
+static void session(uint8_t op, const uint8_t *in, size_t n) {
+    MalstrinkSession s = get_session(in);
+    const uint8_t *x = in + sizeof s;
+    size_t m = n - sizeof s;
+    switch (op) {
+    case 30: put_session(malstrink_session_wipe(s)); break;
+    case 31: put_stepped(malstrink_session_challenge(s, get8(x))); break;
+    case 32: put_stepped(malstrink_session_receive_ccrypt(s, get8(x), get8(x + 8), get16(x + 16))); break;
+    case 33: put_block(malstrink_session_server_cryptogram(s)); break;
+    case 34: put_block(malstrink_session_initial_rmac(s)); break;
+    case 35: put_stepped(malstrink_session_confirm_rmac_i(s, get16(x))); break;
+    case 36: put_stepped_block(malstrink_session_receive_challenge(s, get8(x), get8(x + 8))); break;
+    case 37: put_stepped_block(malstrink_session_receive_scrypt(s, get16(x))); break;
+    case 38: put_stepped_block(malstrink_session_mac(s, slice(x, m), m)); break;
+    case 39: { MalstrinkBytes4 mac; memcpy(mac.bytes, x, 4); put_stepped(malstrink_session_verify(s, slice(x + 4, m - 4), m - 4, mac)); break; }
+    case 40: { MalstrinkKeysAnswer k = malstrink_session_keys(s); put_answer(k.answer); put(&k.keys, sizeof k.keys); break; }
+    default: put_block(malstrink_session_last_other_mac(s));
+    }
+}
+
+/* Those that lend one: the session, the buffer's room, what is to be sealed where that is asked, then the bytes. */
+static void channel(uint8_t op, const uint8_t *in, size_t n) {
+    MalstrinkSession s = get_session(in);
+    const uint8_t *x = in + sizeof s + 4, *bytes = op == 44 ? x + 5 : x;
+    size_t room = get32(in + sizeof s), m = n - (size_t)(bytes - in);
+    uint8_t *out = malloc(room + GUARD);
+    if (!out) exit(3);
+    fill(out, room + GUARD);
+    if (op == 44) {
+        MalstrinkToSeal p = { x[0], x[1], x[2], x[3], x[4] };
+        MalstrinkSealed r = malstrink_seal(s, p, slice(bytes, m), m, out, room);
+        put_answer(r.answer); put64(r.calls); put_session(r.session);
+    } else if (op == 45) {
+        MalstrinkUnsealed r = malstrink_unseal(s, slice(bytes, m), m, out, room);
+        put_answer(r.answer); put8(r.in_work); put64(r.start); put64(r.len); put64(r.calls); put_session(r.session);
+    } else {
+        MalstrinkCiphered r = op == 42 ? malstrink_session_seal_data(s, slice(bytes, m), m, out, room)
+                                       : malstrink_session_open_data(s, slice(bytes, m), m, out, room);
+        put_answer(r.answer); put64(r.calls);
+    }
+    put(out, room + GUARD);
+    free(out);
+}
+
+/* Which slice, start, length, the length of the frame; then the frame and the work buffer. */
+static void place(const uint8_t *in, size_t n) {
+    size_t start = get64(in + 1), len = get64(in + 9), frame = get32(in + 17), work = n - 21 - frame;
+    put_answer(malstrink_payload_test(slice(in + 21, frame), frame, slice(in + 21 + frame, work), work, in[0], start, len));
+}
+
 static void call(uint8_t op, const uint8_t *in, size_t n) {
     switch (op) {
     case 0: put8(malstrink_checksum8(in, n)); break;
@@ -107,7 +169,11 @@ static void call(uint8_t op, const uint8_t *in, size_t n) {
     case 22: case 23: case 26: case 27: cipher(op, in, n); break;
     case 24: put_answer(malstrink_unpad_data(in, n)); break;
     case 25: { MalstrinkChain m = malstrink_cbc_mac(in + 48, n - 48, get16(in), get16(in + 16), get16(in + 32)); put(m.full, 16); put64(m.calls); break; }
-    default: exit(4);
+    case 28: put_session(malstrink_session_new(get16(in))); break;
+    case 29: put_session(malstrink_session_new_reader(get16(in), get8(in + 16))); break;
+    case 42: case 43: case 44: case 45: channel(op, in, n); break;
+    case 46: place(in, n); break;
+    default: if (op < 30 || op > 41) exit(4); session(op, in, n);
     }
 }
 

@@ -5,7 +5,7 @@ use mathlib.Core.Bool.{Bool, true, false}
 use Rattle.laws.specs.Answer.{Answer, Answer.given, Answer.refused}
 use Rattle.packet_head.specs.Block.{BlockRead}
 use Rattle.packet_head.specs.Trailer.{Tail, Tail.checksum, Tail.crc}
-use Rattle.packet_parse.specs.Frame.{Head, Fields, BlockAt, BlockAt.noBlock, BlockAt.blockAt, MacAt, MacAt.noMac, MacAt.macFrom}
+use Rattle.packet_parse.specs.Frame.{Head, Fields, BlockAt, BlockAt.noBlock, BlockAt.blockAt, typeIn, macStart}
 use Rattle.ffi.specs.Answers.{cGiven, cRefused}
 use Rattle.ffi.specs.declared.answer.CAnswer.{CAnswer}
 use Rattle.ffi.specs.declared.parse.CBlock.{CBlock}
@@ -20,11 +20,7 @@ abbrev pub cHead : Answer Head → CHead
 cHead (given h) = record { answer = cGiven 0; addr = h .addr; len = h .len; sqn = h .ctrl .0; crc = h .ctrl .1; block = h .ctrl .2 }
 cHead (refused n vs) = record { answer = cRefused n vs; addr = 0; len = 0; sqn = 0; crc = false; block = false }
 
--- a block that is not there has type 0, a MAC that is not there place 0
-abbrev pub typeIn : BlockAt → ℕ
-typeIn noBlock = 0
-typeIn (blockAt ty at len) = ty
-
+-- a block that is not there has place and length 0
 abbrev pub blockStart : BlockAt → ℕ
 blockStart noBlock = 0
 blockStart (blockAt ty at len) = at
@@ -32,10 +28,6 @@ blockStart (blockAt ty at len) = at
 abbrev pub blockLen : BlockAt → ℕ
 blockLen noBlock = 0
 blockLen (blockAt ty at len) = len
-
-abbrev pub macStart : MacAt → ℕ
-macStart noMac = 0
-macStart (macFrom at) = at
 
 abbrev pub tailIsCrc : Tail → Bool
 tailIsCrc (checksum n) = false

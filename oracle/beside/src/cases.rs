@@ -1,37 +1,41 @@
 //! What is asked. `count` sets how many of the random cases there are; the exhaustive ones are always asked in full.
 use crate::Compare;
 use crate::rust::Ask;
+use crate::talk;
 use crate::wire::*;
 use osdp::packet::{checksum8, crc16};
 use osdp::secure::cipher::encrypt_data;
 
 /// xorshift64*, so that a seed gives the same run everywhere.
-struct Random(u64);
+pub struct Random(u64);
 impl Random {
-    fn next(&mut self) -> u64 {
+    pub fn new(seed: u64) -> Self {
+        Self(seed.wrapping_mul(0x9E37_79B9_7F4A_7C15) | 1)
+    }
+    pub fn next(&mut self) -> u64 {
         self.0 ^= self.0 >> 12;
         self.0 ^= self.0 << 25;
         self.0 ^= self.0 >> 27;
         self.0.wrapping_mul(0x2545_F491_4F6C_DD1D)
     }
-    fn below(&mut self, n: usize) -> usize {
+    pub fn below(&mut self, n: usize) -> usize {
         ((self.next() >> 32) as usize) % n
     }
-    fn byte(&mut self) -> u8 {
+    pub fn byte(&mut self) -> u8 {
         (self.next() >> 56) as u8
     }
-    fn bytes(&mut self, n: usize) -> Vec<u8> {
+    pub fn bytes(&mut self, n: usize) -> Vec<u8> {
         (0..n).map(|_| self.byte()).collect()
     }
-    fn bool(&mut self) -> bool {
+    pub fn bool(&mut self) -> bool {
         self.next() >> 63 == 1
     }
-    fn pick<T: Copy>(&mut self, of: &[T]) -> T {
+    pub fn pick<T: Copy>(&mut self, of: &[T]) -> T {
         of[self.below(of.len())]
     }
 }
 
-const TYPES: [u8; 8] = [0x11, 0x12, 0x13, 0x14, 0x15, 0x16, 0x17, 0x18];
+pub const TYPES: [u8; 8] = [0x11, 0x12, 0x13, 0x14, 0x15, 0x16, 0x17, 0x18];
 
 /// A buffer, for every call that reads one.
 fn read(c: &mut Compare, buf: Vec<u8>) {
@@ -42,7 +46,7 @@ fn read(c: &mut Compare, buf: Vec<u8>) {
     c.ask(PARSE, buf);
 }
 
-fn close(mut frame: Vec<u8>, crc: bool) -> Vec<u8> {
+pub fn close(mut frame: Vec<u8>, crc: bool) -> Vec<u8> {
     if crc {
         frame.extend_from_slice(&crc16(&frame).to_le_bytes());
     } else {
@@ -123,7 +127,7 @@ fn exhaustive(c: &mut Compare) {
 }
 
 /// A good frame with random contents.
-fn random_frame(r: &mut Random, data: usize) -> Vec<u8> {
+pub fn random_frame(r: &mut Random, data: usize) -> Vec<u8> {
     let ctrl = r.byte() & 15;
     let mut rest = Vec::new();
     if ctrl & 8 != 0 {
@@ -334,11 +338,12 @@ fn ciphers(c: &mut Compare, r: &mut Random, count: u64) {
 }
 
 pub fn all(c: &mut Compare, seed: u64, count: u64) {
-    let mut r = Random(seed.wrapping_mul(0x9E37_79B9_7F4A_7C15) | 1);
+    let mut r = Random::new(seed);
     bytes(c);
     exhaustive(c);
     sums(c, &mut r, count);
     parsing(c, &mut r, count);
     building(c, &mut r, count);
     ciphers(c, &mut r, count);
+    talk::all(c, &mut r, count);
 }

@@ -1,17 +1,24 @@
 //! beside SEED COUNT COMMAND..: asks the Rust and the proved side the same, and tells where they differ.
+//! beside SEED COUNT --store CASES LINES: asks the Rust alone, and stores some of the cases and what crates/replay tells of them.
 mod cases;
 mod rust;
 mod second;
+mod session;
+mod store;
+mod talk;
 mod wire;
 
 use std::collections::BTreeMap;
+use rust::Answer;
+use store::Store;
 use wire::{NAMES, Ours};
 
 /// Sends requests in batches and compares what comes back.
 pub struct Compare {
-    ours: Ours,
+    ours: Option<Ours>,
+    store: Option<Store>,
     batch: Vec<u8>,
-    asked: Vec<(u8, Vec<u8>)>,
+    asked: Vec<(u8, Vec<u8>, Option<Answer>)>,
     /// How many comparisons each call had, and how often each intended difference was seen.
     calls: [u64; NAMES.len()],
     intended: BTreeMap<&'static str, u64>,
@@ -23,16 +30,32 @@ pub struct Compare {
 const BATCH: usize = 1 << 20;
 
 impl Compare {
-    fn new(ours: Ours) -> Self {
+    fn new(ours: Option<Ours>, store: Option<Store>) -> Self {
         let (calls, intended, refused) = ([0; NAMES.len()], BTreeMap::new(), BTreeMap::new());
-        Self { ours, batch: Vec::new(), asked: Vec::new(), calls, intended, refused, wrong: 0, smallest: None }
+        Self { ours, store, batch: Vec::new(), asked: Vec::new(), calls, intended, refused, wrong: 0, smallest: None }
     }
 
     pub fn ask(&mut self, op: u8, input: Vec<u8>) {
+        self.push(op, input, None);
+    }
+
+    /// Asks, and tells what the oracle answers: the next call may need it.
+    pub fn step(&mut self, op: u8, input: Vec<u8>) -> Vec<u8> {
+        let answer = rust::call(op, &input);
+        let told = answer.0.0.clone();
+        self.push(op, input, Some(answer));
+        told
+    }
+
+    fn push(&mut self, op: u8, input: Vec<u8>, answer: Option<Answer>) {
+        if let Some(store) = &mut self.store {
+            let answer = answer.unwrap_or_else(|| rust::call(op, &input));
+            return store.see(op, input, answer.0.0);
+        }
         self.batch.push(op);
         self.batch.extend_from_slice(&(input.len() as u32).to_le_bytes());
         self.batch.extend_from_slice(&input);
-        self.asked.push((op, input));
+        self.asked.push((op, input, answer));
         if self.batch.len() >= BATCH {
             self.flush();
         }
@@ -43,12 +66,13 @@ impl Compare {
         if self.asked.is_empty() {
             return;
         }
-        self.ours.send(&self.batch);
+        let ours = self.ours.as_mut().unwrap();
+        ours.send(&self.batch);
         let asked = std::mem::take(&mut self.asked);
-        let want: Vec<_> = asked.iter().map(|(op, input)| rust::call(*op, input)).collect();
-        let got = self.ours.receive();
+        let asked: Vec<_> = asked.into_iter().map(|(op, input, answer)| (op, answer.unwrap_or_else(|| rust::call(op, &input)), input)).collect();
+        let got = ours.receive();
         let mut at = 0;
-        for ((op, input), (want, name)) in asked.into_iter().zip(want) {
+        for (op, (want, name), input) in asked {
             let n = u32::from_le_bytes(got[at..at + 4].try_into().unwrap()) as usize;
             self.compare(op, input, &want.0, &got[at + 4..at + 4 + n], name);
             at += 4 + n;
@@ -90,7 +114,7 @@ impl Compare {
                 println!("  {what}: {}", bytes.iter().take(200).map(|b| format!("{b:02X}")).collect::<Vec<_>>().join(" "));
             }
         }
-        self.ours.end();
+        self.ours.unwrap().end();
         println!("{total} comparisons, {} differences that are on no list", self.wrong);
         self.wrong == 0
     }
@@ -101,7 +125,15 @@ fn main() {
     let seed: u64 = args[1].parse().expect("SEED is a number");
     let count: u64 = args[2].parse().expect("COUNT is a number");
     println!("seed {seed}, count {count}");
-    let mut compare = Compare::new(Ours::start(&args[3..]));
+    if args[3] == "--store" {
+        let mut compare = Compare::new(None, Some(Store::new(seed)));
+        cases::all(&mut compare, seed, count);
+        let (cases, lines) = compare.store.unwrap().written();
+        std::fs::write(&args[4], cases).expect("the cases cannot be written");
+        std::fs::write(&args[5], lines).expect("the lines cannot be written");
+        return;
+    }
+    let mut compare = Compare::new(Some(Ours::start(&args[3..])), None);
     cases::all(&mut compare, seed, count);
     compare.flush();
     if !compare.report() {

@@ -1,6 +1,7 @@
 //! The oracle's answers, in the layout of the proved side's. Where the paper asks for another answer than the Rust's, the answer
 //! is the paper's and comes with the difference's name (docs/DIFFERENCES.md).
 use crate::second;
+use crate::session;
 use crate::wire::*;
 use osdp::error::{Error, SecureSessionError};
 use osdp::packet::*;
@@ -161,7 +162,7 @@ impl Ask {
 }
 
 /// The answer, and what the buffer holds in the end.
-fn into_buffer(room: usize, answer: (u8, usize, usize), written: &[u8], name: Option<&'static str>) -> Answer {
+pub fn into_buffer(room: usize, answer: (u8, usize, usize), written: &[u8], name: Option<&'static str>) -> Answer {
     let mut buffer = fill(room + GUARD);
     buffer[..written.len()].copy_from_slice(written);
     let mut o = Out::default();
@@ -204,7 +205,7 @@ fn build(ask: &Ask, body: bool) -> Answer {
     }
 }
 
-fn calls() -> u64 {
+pub fn calls() -> u64 {
     aes::CALLS.load(std::sync::atomic::Ordering::Relaxed)
 }
 
@@ -332,7 +333,7 @@ pub fn call(op: u8, input: &[u8]) -> Answer {
             let full = cbc_mac(&input[48..], &block(0), &block(16), &block(32));
             o.bytes(&full).u64((calls() - before) as usize)
         }
-        _ => unreachable!(),
+        _ => return session::call(op, input),
     };
     (o, None)
 }

@@ -36,17 +36,38 @@ pub const UNPAD: u8 = 24;
 pub const CBC_MAC: u8 = 25;
 pub const ENCRYPT: u8 = 26;
 pub const DECRYPT: u8 = 27;
+pub const NEW: u8 = 28;
+pub const NEW_READER: u8 = 29;
+pub const WIPE: u8 = 30;
+pub const CHALLENGE: u8 = 31;
+pub const RECEIVE_CCRYPT: u8 = 32;
+pub const SERVER_CRYPTOGRAM: u8 = 33;
+pub const INITIAL_RMAC: u8 = 34;
+pub const CONFIRM_RMAC_I: u8 = 35;
+pub const RECEIVE_CHALLENGE: u8 = 36;
+pub const RECEIVE_SCRYPT: u8 = 37;
+pub const MAC: u8 = 38;
+pub const VERIFY: u8 = 39;
+pub const KEYS: u8 = 40;
+pub const LAST_OTHER_MAC: u8 = 41;
+pub const SEAL_DATA: u8 = 42;
+pub const OPEN_DATA: u8 = 43;
+pub const SEAL: u8 = 44;
+pub const UNSEAL: u8 = 45;
+pub const PAYLOAD_TEST: u8 = 46;
 
 /// Whether an answer starts with a refusal's number.
 pub fn refuses(op: u8) -> bool {
-    !matches!(op, CHECKSUM8 | CRC16 | AES_ENCRYPT..=COMPLEMENT | CBC_MAC)
+    !matches!(op, CHECKSUM8 | CRC16 | AES_ENCRYPT..=COMPLEMENT | CBC_MAC | NEW | NEW_READER | WIPE)
 }
 
-pub const NAMES: [&str; 28] = [
+pub const NAMES: [&str; 47] = [
     "checksum8", "crc16", "address pd", "address reply", "sqn new", "sqn next", "control decode", "control encode",
     "scs type", "block", "head", "parse", "build", "build body", "aes encrypt", "aes decrypt", "derive", "client cryptogram",
     "server cryptogram", "first chain value", "diversify scbk", "complement icv", "pad mac", "pad data", "unpad data", "cbc mac",
-    "encrypt data", "decrypt data",
+    "encrypt data", "decrypt data", "session new", "session new reader", "session wipe", "challenge", "receive ccrypt",
+    "session server cryptogram", "session initial rmac", "confirm rmac_i", "receive challenge", "receive scrypt", "session mac",
+    "session verify", "session keys", "last other mac", "session seal data", "session open data", "seal", "unseal", "payload test",
 ];
 
 /// Bytes of an answer, put one after the other.

@@ -1,0 +1,343 @@
+//! Frames: their small kinds, reading and building (docs/RULES.md, 2 to 4).
+use crate::raw;
+use crate::Refusal;
+
+/// The checksum of a frame's bytes (2.5).
+pub fn checksum8(bytes: &[u8]) -> u8 {
+    unsafe { raw::malstrink_checksum8(bytes.as_ptr(), bytes.len()) }
+}
+
+/// The CRC of a frame's bytes (2.6). In a frame its low byte comes first.
+///
+/// ```
+/// assert_eq!(malstrink::crc16(&[0x53, 0x05, 0x08, 0x00, 0x04, 0x60]), 0x89BC);
+/// ```
+pub fn crc16(bytes: &[u8]) -> u16 {
+    unsafe { raw::malstrink_crc16(bytes.as_ptr(), bytes.len()) }
+}
+
+/// An address byte, with the reply flag (2.3).
+#[derive(Clone, Copy, Debug, PartialEq, Eq, Hash)]
+pub struct Address(u8);
+
+impl Address {
+    /// The address that every device takes.
+    pub const BROADCAST: Address = Address(0x7F);
+
+    /// Any byte, as a frame has it.
+    pub const fn from_raw(byte: u8) -> Address {
+        Address(byte)
+    }
+
+    /// The address of a command to device n. Above 7F hex: `BadAddress`.
+    pub fn pd(n: u8) -> Result<Address, Refusal> {
+        unsafe { raw::malstrink_address_pd(n) }.told().map(|a| Address(a as u8))
+    }
+
+    /// The address of a reply from device n. Above 7F hex: `BadAddress`.
+    pub fn reply(n: u8) -> Result<Address, Refusal> {
+        unsafe { raw::malstrink_address_reply(n) }
+            .told()
+            .map(|a| Address(a as u8))
+    }
+
+    /// The whole byte, flag included.
+    pub const fn as_byte(self) -> u8 {
+        self.0
+    }
+}
+
+/// A sequence number, 0 to 3 (2.3).
+#[derive(Clone, Copy, Debug, PartialEq, Eq, Hash)]
+pub struct Sqn(u8);
+
+impl Sqn {
+    /// The number used at boot and recovery.
+    pub const ZERO: Sqn = Sqn(0);
+
+    /// Above 3: `BadSqn`.
+    pub fn new(n: u8) -> Result<Sqn, Refusal> {
+        unsafe { raw::malstrink_sqn_new(n) }.told().map(|a| Sqn(a as u8))
+    }
+
+    /// The number after this one: 1, 2, 3 and 1 again. It never comes back to 0.
+    pub fn next(self) -> Sqn {
+        match unsafe { raw::malstrink_sqn_next(self.0) }.told() {
+            Ok(n) => Sqn(n as u8),
+            Err(_) => unreachable!("a Sqn is at most 3"),
+        }
+    }
+
+    /// The number.
+    pub const fn value(self) -> u8 {
+        self.0
+    }
+}
+
+/// What a control byte says (2.2).
+#[derive(Clone, Copy, Debug, PartialEq, Eq, Hash)]
+pub struct ControlByte {
+    /// The sequence number.
+    pub sqn: Sqn,
+    /// Whether the frame ends with a CRC. If not, it ends with a checksum.
+    pub crc: bool,
+    /// Whether a block follows.
+    pub block: bool,
+}
+
+impl ControlByte {
+    /// Above 0F hex: `BadControlByte`.
+    pub fn decode(byte: u8) -> Result<ControlByte, Refusal> {
+        let c = unsafe { raw::malstrink_control_decode(byte) };
+        c.answer.done()?;
+        Ok(ControlByte {
+            sqn: Sqn(c.sqn),
+            crc: c.crc,
+            block: c.block,
+        })
+    }
+
+    /// The byte.
+    pub fn encode(self) -> u8 {
+        match unsafe { raw::malstrink_control_encode(self.sqn.0, self.crc, self.block) }.told() {
+            Ok(byte) => byte as u8,
+            Err(_) => unreachable!("a Sqn is at most 3"),
+        }
+    }
+}
+
+/// The type of a block (2.4): the hexadecimal number is in the name.
+#[derive(Clone, Copy, Debug, PartialEq, Eq, Hash)]
+#[repr(u8)]
+#[allow(missing_docs)]
+pub enum ScsType {
+    Scs11 = 0x11,
+    Scs12 = 0x12,
+    Scs13 = 0x13,
+    Scs14 = 0x14,
+    Scs15 = 0x15,
+    Scs16 = 0x16,
+    Scs17 = 0x17,
+    Scs18 = 0x18,
+}
+
+impl ScsType {
+    /// Not one of the eight: `BadSecurityBlock`.
+    pub fn from_byte(byte: u8) -> Result<ScsType, Refusal> {
+        let n = unsafe { raw::malstrink_scs_type(byte) }.told()?;
+        match ScsType::of(n as u8) {
+            Some(ty) => Ok(ty),
+            None => unreachable!("the archive has no block type {}", n),
+        }
+    }
+
+    /// The byte.
+    pub const fn as_byte(self) -> u8 {
+        self as u8
+    }
+
+    fn of(byte: u8) -> Option<ScsType> {
+        Some(match byte {
+            0x11 => ScsType::Scs11,
+            0x12 => ScsType::Scs12,
+            0x13 => ScsType::Scs13,
+            0x14 => ScsType::Scs14,
+            0x15 => ScsType::Scs15,
+            0x16 => ScsType::Scs16,
+            0x17 => ScsType::Scs17,
+            0x18 => ScsType::Scs18,
+            _ => return None,
+        })
+    }
+}
+
+/// A security block.
+#[derive(Clone, Copy, Debug, PartialEq, Eq, Hash)]
+pub struct Block<'a> {
+    /// Its type.
+    pub ty: ScsType,
+    /// Its data, at most 253 bytes.
+    pub data: &'a [u8],
+}
+
+impl<'a> Block<'a> {
+    /// Reads the block at the start of `bytes`, a frame's part from byte 5 on (3.3). Refuses by `Truncated`,
+    /// `BadSecurityBlockLength` or `BadSecurityBlock`.
+    pub fn read(bytes: &'a [u8]) -> Result<Block<'a>, Refusal> {
+        let b = unsafe { raw::malstrink_block(bytes.as_ptr(), bytes.len()) };
+        b.answer.done()?;
+        match ScsType::of(b.ty) {
+            Some(ty) => Ok(Block {
+                ty,
+                data: &bytes[2..2 + usize::from(b.data_len)],
+            }),
+            None => unreachable!("the archive has no block type {}", b.ty),
+        }
+    }
+}
+
+/// What the first five bytes of a frame say (3.2).
+#[derive(Clone, Copy, Debug, PartialEq, Eq, Hash)]
+pub struct Head {
+    /// The address.
+    pub addr: Address,
+    /// LEN, the length of the whole frame.
+    pub len: usize,
+    /// The control byte.
+    pub control: ControlByte,
+}
+
+impl Head {
+    /// Looks at the first five bytes only. Refuses by `Truncated`, `BadSom` or `BadControlByte`.
+    pub fn read(bytes: &[u8]) -> Result<Head, Refusal> {
+        let h = unsafe { raw::malstrink_head(bytes.as_ptr(), bytes.len()) };
+        h.answer.done()?;
+        Ok(Head {
+            addr: Address(h.addr),
+            len: h.len,
+            control: ControlByte {
+                sqn: Sqn(h.sqn),
+                crc: h.crc,
+                block: h.block,
+            },
+        })
+    }
+}
+
+/// The parts of a frame, all but its MAC and its trailer.
+#[derive(Clone, Copy, Debug, PartialEq, Eq, Hash)]
+pub struct Packet<'a> {
+    /// The address.
+    pub addr: Address,
+    /// The control byte. Its flag `block` has to say whether there is a block.
+    pub control: ControlByte,
+    /// The block.
+    pub block: Option<Block<'a>>,
+    /// The code of the command or reply.
+    pub code: u8,
+    /// The data, also called payload.
+    pub data: &'a [u8],
+}
+
+/// The trailer of a frame.
+#[derive(Clone, Copy, Debug, PartialEq, Eq, Hash)]
+pub enum Trailer {
+    /// One byte.
+    Checksum(u8),
+    /// Two bytes.
+    Crc(u16),
+}
+
+/// A frame that was read. Its slices are parts of the bytes that it was read from.
+#[derive(Clone, Copy, Debug, PartialEq, Eq, Hash)]
+pub struct Parsed<'a> {
+    /// Its parts.
+    pub packet: Packet<'a>,
+    /// The MAC, there exactly if the block's type is 15 to 18 hex. Reading does not check it: [`crate::Session::unseal`] does.
+    pub mac: Option<[u8; 4]>,
+    /// The trailer, which is right.
+    pub trailer: Trailer,
+    /// How long the frame is. Bytes after it were not looked at.
+    pub len: usize,
+}
+
+/// Reads the frame at the start of `bytes` (3.1). Refuses by number 1 to 8.
+///
+/// ```
+/// use malstrink::{parse, Refusal};
+///
+/// let poll = [0x53, 0x05, 0x08, 0x00, 0x04, 0x60, 0xBC, 0x89];
+/// assert_eq!(parse(&poll)?.packet.code, 0x60);
+/// assert_eq!(parse(&poll[..7]), Err(Refusal::Truncated { have: 7, need: 8 }));
+/// # Ok::<(), Refusal>(())
+/// ```
+pub fn parse(bytes: &[u8]) -> Result<Parsed<'_>, Refusal> {
+    let p = unsafe { raw::malstrink_parse(bytes.as_ptr(), bytes.len()) };
+    p.answer.done()?;
+    let part = |start: usize, len: usize| &bytes[start..start + len];
+    Ok(Parsed {
+        packet: Packet {
+            addr: Address(p.addr),
+            control: ControlByte {
+                sqn: Sqn(p.sqn),
+                crc: p.crc,
+                block: p.block,
+            },
+            block: ScsType::of(p.block_type).map(|ty| Block {
+                ty,
+                data: part(p.block_start, p.block_len),
+            }),
+            code: p.code,
+            data: part(p.data_start, p.data_len),
+        },
+        mac: if p.mac_start == 0 {
+            None
+        } else {
+            part(p.mac_start, 4).try_into().ok()
+        },
+        trailer: if p.trailer_is_crc {
+            Trailer::Crc(p.trailer)
+        } else {
+            Trailer::Checksum(p.trailer as u8)
+        },
+        len: p.len,
+    })
+}
+
+/// A packet's fields as they cross, and its block's data.
+fn fields<'a>(p: &Packet<'a>) -> (raw::Packet, &'a [u8]) {
+    let (block_type, block) = p.block.map_or((0, &[][..]), |b| (b.ty.as_byte(), b.data));
+    let fields = raw::Packet {
+        addr: p.addr.0,
+        sqn: p.control.sqn.0,
+        crc: p.control.crc,
+        block: p.control.block,
+        block_type,
+        code: p.code,
+    };
+    (fields, block)
+}
+
+/// Builds a frame at the front of `out` (4.3) and shows it there. Refuses by `BadControlByte`, `BadMac`, `BlockTooLong`,
+/// `BufferOverflow` or `NoRoom`, in this order.
+///
+/// A MAC is due exactly if the block's type is 15 to 18 hex. It is worked out over what [`build_body`] writes.
+pub fn build<'o>(packet: &Packet<'_>, mac: Option<[u8; 4]>, out: &'o mut [u8]) -> Result<&'o [u8], Refusal> {
+    let (p, block) = fields(packet);
+    let [b0, b1, b2, b3] = mac.unwrap_or([0; 4]);
+    let given = mac.is_some();
+    let mac = raw::Mac { given, b0, b1, b2, b3 };
+    let (data, room) = (packet.data, out.len());
+    let answer = unsafe {
+        raw::malstrink_build(
+            p,
+            block.as_ptr(),
+            block.len(),
+            data.as_ptr(),
+            data.len(),
+            mac,
+            out.as_mut_ptr(),
+            room,
+        )
+    };
+    answer.told().map(|n| &out[..n])
+}
+
+/// Writes what a MAC is worked out over, from 53 hex to the end of data (4.5), and shows it. It wants room for the whole frame, and a
+/// block for which a MAC is due; else it refuses as [`build`] does.
+pub fn build_body<'o>(packet: &Packet<'_>, out: &'o mut [u8]) -> Result<&'o [u8], Refusal> {
+    let (p, block) = fields(packet);
+    let (data, room) = (packet.data, out.len());
+    let answer = unsafe {
+        raw::malstrink_build_body(
+            p,
+            block.as_ptr(),
+            block.len(),
+            data.as_ptr(),
+            data.len(),
+            out.as_mut_ptr(),
+            room,
+        )
+    };
+    answer.told().map(|n| &out[..n])
+}

@@ -1,0 +1,66 @@
+//! OSDP frames and the secure channel over them, as safe Rust over an archive whose every function is proved.
+//!
+//! What each call does, number by number, is in the repository's docs/RULES.md; the sections are cited here. The calls keep no
+//! pointer, allocate nothing and end on every input. A call that cannot do what it is asked answers a [`Refusal`], and leaves the
+//! session and every buffer as they were, with the two exceptions of docs/RULES.md, 1.3: a failed handshake resets the session, and
+//! a deciphering that is refused zeroes the length of the encrypted data in its buffer.
+//!
+//! The proofs are of the archive. What stands in this crate is the Rust around it, which is small and plain, and is tested.
+//!
+//! # Linking
+//!
+//! The archive is for x86-64. The environment variable `MALSTRINK_LIB_DIR` names the directory of `libffi.a` to the build script. The
+//! archive needs `memcpy` and `memset`, and nothing else.
+//!
+//! # Both ends of a channel
+//!
+//! ```
+//! use malstrink::{Address, Direction, Message, Session, Sqn};
+//!
+//! let scbk = *b"key of cabinet 7";
+//! let mut controller = Session::new(&scbk);
+//! let mut reader = Session::new_reader(&scbk, b"cabinet7");
+//!
+//! // The four steps of the handshake; the caller carries the values in frames of type 11 to 14.
+//! controller.challenge(b"random.A")?;
+//! let client = reader.receive_challenge(b"random.A", b"random.B")?;
+//! controller.receive_ccrypt(b"cabinet7", b"random.B", &client)?;
+//! let first = reader.receive_scrypt(&controller.server_cryptogram()?)?;
+//! controller.confirm_rmac_i(&first)?;
+//!
+//! // A sealed frame.
+//! let message = Message {
+//!     addr: Address::pd(5)?,
+//!     sqn: Sqn::ZERO.next(),
+//!     direction: Direction::FromController,
+//!     encrypt: true,
+//!     code: 0x69,
+//!     data: b"a red lamp",
+//! };
+//! let (mut line, mut work) = ([0; 64], [0; 64]);
+//! let frame = controller.seal(&message, &mut line).answer?;
+//! assert_eq!(frame.len(), 30);
+//! assert_eq!(reader.unseal(frame, &mut work).answer?, b"a red lamp");
+//! # Ok::<(), malstrink::Refusal>(())
+//! ```
+#![no_std]
+#![warn(missing_docs)]
+
+mod cipher;
+mod frame;
+mod keys;
+mod raw;
+mod refusal;
+mod session;
+mod wipe;
+
+pub use cipher::{cbc_mac, complement_icv, decrypt_data, encrypt_data, pad_data, pad_mac, unpad_data, Chain, Counted};
+pub use frame::{
+    build, build_body, checksum8, crc16, parse, Address, Block, ControlByte, Head, Packet, Parsed, ScsType, Sqn,
+    Trailer,
+};
+pub use keys::{
+    aes_decrypt, aes_encrypt, client_cryptogram, diversify_scbk_legacy, initial_rmac, server_cryptogram, SessionKeys,
+};
+pub use refusal::Refusal;
+pub use session::{payload, Direction, End, Message, Place, Session, State};

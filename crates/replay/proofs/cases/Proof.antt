@@ -1,0 +1,18 @@
+-- `cases` ends: each turn is one of count.
+-- Assumes nothing.
+use Prim.Native.Nat.{_≤_, _-_}
+use borrow.Author.Needs.{needs}
+use Rattle.replay.proofs.cases.Statement.{statement}
+use Rattle.replay.proofs.cases.Tie as tie
+
+abbrev Inv-loop : tie.InvT-loop
+Inv-loop op count right₀ counter₀ right counter = counter ≤ count
+
+abbrev μ-loop : tie.MeasureT-loop
+μ-loop op count right₀ counter₀ right counter = count - counter
+
+pub cases-spec : {M : Type 1} → statement M
+cases-spec =
+    tie.close
+    (tie.spec Inv-loop μ-loop
+    (λ c. search needs) (λ c κs. search needs) (λ c κs. search needs) (λ c. search needs) (λ c. search needs) (λ c. search needs) (λ c. search needs))

@@ -1,0 +1,89 @@
+// What a call is handed, taken out of a case. Beyond its end a case has zeros.
+ghost use Prim.Native.Nat.{_≤_};
+use ffi::Bytes8;
+use ffi::Bytes16;
+
+pub fn byte(x: &[u8], at: usize) -> u8 {
+    if at < x.len() { x[at] } else { 0 }
+}
+
+pub fn flag(x: &[u8], at: usize) -> bool {
+    byte(x, at) != 0
+}
+
+// From a place on.
+pub fn from(x: &[u8], at: usize) -> &[u8] {
+    if at < x.len() {
+        return &x[at..];
+    }
+    &x[..0]
+}
+
+// The first n bytes, or all.
+pub fn first(x: &[u8], n: usize) -> &[u8] {
+    if n < x.len() {
+        return &x[..n];
+    }
+    x
+}
+
+pub fn eight(x: &[u8]) -> Bytes8 {
+    Bytes8 {
+        bytes: [
+            byte(x, 0),
+            byte(x, 1),
+            byte(x, 2),
+            byte(x, 3),
+            byte(x, 4),
+            byte(x, 5),
+            byte(x, 6),
+            byte(x, 7),
+        ],
+    }
+}
+
+pub fn sixteen(x: &[u8]) -> Bytes16 {
+    Bytes16 {
+        bytes: [
+            byte(x, 0),
+            byte(x, 1),
+            byte(x, 2),
+            byte(x, 3),
+            byte(x, 4),
+            byte(x, 5),
+            byte(x, 6),
+            byte(x, 7),
+            byte(x, 8),
+            byte(x, 9),
+            byte(x, 10),
+            byte(x, 11),
+            byte(x, 12),
+            byte(x, 13),
+            byte(x, 14),
+            byte(x, 15),
+        ],
+    }
+}
+
+fn wide(x: u8) -> usize
+    ensures { λ r. ⌜ r ≤ 255 ⌝ }
+{
+    x as usize
+}
+
+// Two bytes, the low one first.
+pub fn two(x: &[u8]) -> usize
+    ensures { λ r. ⌜ r ≤ 65535 ⌝ }
+{
+    wide(byte(x, 1)) * 256 + wide(byte(x, 0))
+}
+
+pub fn four(x: &[u8]) -> usize
+    ensures { λ r. ⌜ r ≤ 4294967295 ⌝ }
+{
+    two(from(x, 2)) * 65536 + two(x)
+}
+
+pub fn number(x: &[u8]) -> usize {
+    four(from(x, 4)) * 4294967296 + four(x)
+}

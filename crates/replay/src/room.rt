@@ -1,0 +1,75 @@
+// The calls that are lent a buffer: what it holds before the call, by the oracle's rule, and what it and 16 bytes beyond hold after it.
+ghost use mathlib.Core.Path.{_≡_};
+ghost use lib.ListN.{length};
+use super::ciphers;
+use super::frames;
+use super::given;
+use super::sessions;
+use super::want;
+
+fn filled() -> [u8; 1024]
+    ensures { λ r. ⌜ 1024 ≡ length r ⌝ }
+{
+    let mut b = [0u8; 1024];
+    let mut x: u8 = 0;
+    for i in 0..1024 {
+        b[i] = x ^ 0xA5;
+        x = std::num::wrapping_add_u8(x, 7);
+    }
+    b
+}
+
+pub fn is_lent(op: u8) -> bool {
+    match op {
+        12 | 13 | 22 | 23 | 26 | 27 | 42 | 43 | 44 | 45 => true,
+        _ => false,
+    }
+}
+
+// Where a case says how long the buffer is.
+fn room_at(op: u8) -> usize {
+    if op < 14 {
+        19
+    } else if op < 28 {
+        0
+    } else {
+        106
+    }
+}
+
+// All of the answer but the buffer, which comes last.
+fn answer(op: u8, x: &[u8], w: &[u8], out: &mut [u8]) -> usize {
+    match op {
+        12 | 13 => frames::build(op, x, w, out),
+        22 | 23 => ciphers::pad(op, x, w, out),
+        26 | 27 => ciphers::cbc(op, x, w, out),
+        44 => sessions::seal(x, w, out),
+        45 => sessions::unseal(x, w, out),
+        _ => sessions::on_session(op, x, w, out),
+    }
+}
+
+fn lent(op: u8, x: &[u8], w: &[u8], out: &mut [u8], room: usize) -> usize {
+    if out.len() < room {
+        return want::nothing();
+    }
+    answer(op, x, w, &mut out[..room])
+}
+
+// The buffer, and 16 bytes more.
+fn left(w: &[u8], at: usize, out: &[u8; 1024], room: usize) -> usize {
+    if 1000 < room {
+        return want::nothing();
+    }
+    want::bytes(w, at, given::first(out, room + 16))
+}
+
+pub fn call(op: u8, x: &[u8], w: &[u8]) -> usize {
+    let room = given::four(given::from(x, room_at(op)));
+    if 1000 < room {
+        return want::nothing();
+    }
+    let mut out = filled();
+    let p = lent(op, x, w, &mut out, room);
+    left(w, p, &out, room)
+}

@@ -1,0 +1,78 @@
+// An answer beside the one that is wanted. A place in the wanted answer goes on over each byte that is right; past a wrong one it is
+// none, and stays so. The answers agree if the place comes to the end.
+use ffi::Bytes16;
+use ffi::CAnswer;
+use ffi::CCiphered;
+
+// No place: no answer is as long.
+const NONE: usize = 0xffff_ffff_ffff_ffff;
+
+pub fn nothing() -> usize {
+    NONE
+}
+
+pub fn byte(want: &[u8], at: usize, x: u8) -> usize {
+    if at < want.len() {
+        if want[at] == x {
+            return at + 1;
+        }
+    }
+    NONE
+}
+
+pub fn bytes(want: &[u8], at: usize, x: &[u8]) -> usize {
+    let mut place = at;
+    for i in 0..x.len() {
+        place = byte(want, place, x[i]);
+    }
+    place
+}
+
+pub fn block(want: &[u8], at: usize, x: Bytes16) -> usize {
+    let b = x.bytes;
+    bytes(want, at, &b)
+}
+
+pub fn flag(want: &[u8], at: usize, x: bool) -> usize {
+    if x {
+        byte(want, at, 1)
+    } else {
+        byte(want, at, 0)
+    }
+}
+
+fn wide(x: u16) -> usize {
+    x as usize
+}
+
+fn low(want: &[u8], at: usize, x: usize) -> usize {
+    byte(want, at, (x % 256) as u8)
+}
+
+fn two(want: &[u8], at: usize, x: usize) -> usize {
+    low(want, low(want, at, x), x / 256)
+}
+
+pub fn short(want: &[u8], at: usize, x: u16) -> usize {
+    two(want, at, wide(x))
+}
+
+fn four(want: &[u8], at: usize, x: usize) -> usize {
+    two(want, two(want, at, x), x / 65536)
+}
+
+// The low byte of a number comes first.
+pub fn number(want: &[u8], at: usize, x: usize) -> usize {
+    four(want, four(want, at, x), x / 4294967296)
+}
+
+pub fn answer(want: &[u8], at: usize, x: CAnswer) -> usize {
+    let tag = byte(want, at, x.refusal);
+    let a = number(want, tag, x.a);
+    number(want, a, x.b)
+}
+
+pub fn ciphered(want: &[u8], c: CCiphered) -> usize {
+    let a = c.answer;
+    number(want, answer(want, 0, a), c.calls)
+}

@@ -1,0 +1,67 @@
+//! Keeps some cases of every call, with the oracle's answers, for the program of crates/replay to run.
+use crate::cases::Random;
+use crate::wire::{NAMES, refuses};
+use std::collections::BTreeMap;
+
+/// The most that the program takes of a case, each way.
+const MOST: usize = 1024;
+/// From here on a case is long.
+const LONG: usize = 320;
+
+type Case = (Vec<u8>, Vec<u8>);
+
+/// The kinds of case are told apart by call, refusal and whether they are long. Of each kind a few are kept, any with the same chance.
+pub struct Store {
+    kinds: BTreeMap<(u8, u8, bool), (usize, Vec<Case>)>,
+    random: Random,
+}
+
+impl Store {
+    pub fn new(seed: u64) -> Self {
+        Self { kinds: BTreeMap::new(), random: Random::new(seed) }
+    }
+
+    pub fn see(&mut self, op: u8, input: Vec<u8>, answer: Vec<u8>) {
+        let longer = input.len().max(answer.len());
+        if longer > MOST {
+            return;
+        }
+        let refusal = if refuses(op) { answer[0] } else { 0 };
+        let most = match (longer > LONG, refusal, op) {
+            (true, ..) => 2,
+            (_, 0, _) => 40,
+            (_, _, op) if op < 28 => 32,
+            _ => 16,
+        };
+        let (seen, kept) = self.kinds.entry((op, refusal, longer > LONG)).or_default();
+        *seen += 1;
+        if kept.len() < most {
+            kept.push((input, answer));
+        } else {
+            let i = self.random.below(*seen);
+            if i < most {
+                kept[i] = (input, answer);
+            }
+        }
+    }
+
+    /// A part for each call, and what the program tells if all of its cases agree.
+    pub fn written(self) -> (Vec<u8>, String) {
+        let (mut all, mut lines) = (Vec::new(), String::new());
+        for (op, name) in NAMES.iter().enumerate() {
+            let kept: Vec<&Case> = self.kinds.iter().filter(|k| k.0.0 as usize == op).flat_map(|k| &k.1.1).collect();
+            all.push(op as u8);
+            all.extend_from_slice(&(kept.len() as u16).to_le_bytes());
+            all.push(name.len() as u8);
+            all.extend_from_slice(name.as_bytes());
+            for (input, answer) in &kept {
+                all.extend_from_slice(&(input.len() as u16).to_le_bytes());
+                all.extend_from_slice(&(answer.len() as u16).to_le_bytes());
+                all.extend_from_slice(input);
+                all.extend_from_slice(answer);
+            }
+            lines += &format!("{name}: {n} of {n}\n", n = kept.len());
+        }
+        (all, lines)
+    }
+}
