@@ -21,7 +21,7 @@ fn ns(x: f64) -> String {
 }
 
 pub fn print(rows: &[Row], openssl_soft: &HashMap<String, f64>, openssl_hard: &HashMap<String, f64>) {
-    println!("| ns a call | proved | Rust | ratio | Rust, AES instructions | ratio | OpenSSL, none | OpenSSL, with them |");
+    println!("| ns a call | proved | Rust | ratio | Rust, instructions | ratio | OpenSSL, software | OpenSSL, instructions |");
     println!("|---|---|---|---|---|---|---|---|");
     for r in rows {
         let (hard, over) = r.hard.map_or((String::new(), String::new()), |h| (ns(h), format!("{:.2}", r.ours / h)));
@@ -55,7 +55,19 @@ pub fn print_lengths(calls: &[(&str, Vec<(usize, f64)>)]) {
     println!("|---|---|---|---|");
     for (name, ratios) in calls {
         let (at, most) = ratios.iter().max_by(|a, b| a.1.total_cmp(&b.1)).unwrap();
-        let above: Vec<_> = ratios.iter().filter(|r| r.1 > 1.0).map(|r| r.0.to_string()).collect();
-        println!("| {name} | {most:.2} | {at} | {} |", if above.is_empty() { "none".to_string() } else { above.join(", ") });
+        println!("| {name} | {most:.2} | {at} | {} |", runs(ratios.iter().filter(|r| r.1 > 1.0).map(|r| r.0)));
     }
+}
+
+/// Numbers in rising order, neighbours drawn together.
+fn runs(of: impl Iterator<Item = usize>) -> String {
+    let mut runs: Vec<(usize, usize)> = Vec::new();
+    for n in of {
+        match runs.last_mut() {
+            Some((_, last)) if *last + 1 == n => *last = n,
+            _ => runs.push((n, n)),
+        }
+    }
+    let shown = |(a, b): &(usize, usize)| if a == b { a.to_string() } else { format!("{a} to {b}") };
+    if runs.is_empty() { "none".to_string() } else { runs.iter().map(shown).collect::<Vec<_>>().join(", ") }
 }
