@@ -47,6 +47,7 @@ pub enum MacPart {
 // A frame that was read. Each place is counted from the frame's first byte.
 pub struct ParsedPacket {
     pub addr: Address,
+    pub len: usize,
     pub ctrl: ControlByte,
     pub block: BlockPart,
     pub code: u8,
@@ -54,7 +55,6 @@ pub struct ParsedPacket {
     pub data_len: usize,
     pub mac: MacPart,
     pub trailer: Trailer,
-    pub len: usize,
 }
 
 pub enum Parsed {
@@ -117,6 +117,7 @@ fn parse_parts(
     match check(f, ctrl.crc) {
         TrailerAnswer::Good(trailer) => Parsed::Good(ParsedPacket {
             addr,
+            len: n,
             ctrl,
             block,
             code: f[at],
@@ -124,7 +125,6 @@ fn parse_parts(
             data_len: n - (at + 1 + m + t),
             mac: mac_part(mac, n - (m + t)),
             trailer,
-            len: n,
         }),
         TrailerAnswer::Refused(e) => Parsed::Refused(e),
     }
