@@ -357,24 +357,25 @@ fn seal(held: &Held, room: usize, asked: &[u8], data: &[u8]) -> Answer {
 /// Where a payload was opened: in the work buffer or in the frame, start, length.
 type Place = (bool, usize, usize);
 
+fn unsealed(room: usize, answer: (u8, usize, usize), place: Place, calls: u64, held: &Held, written: &[u8], name: Option<&'static str>) -> Answer {
+    let mut o = Out::default();
+    o.bool(place.0).u64(place.1).u64(place.2).u64(calls as usize).bytes(&held.bytes());
+    beside_buffer(room, answer, &o.0, written, name)
+}
+
 fn unseal(held: &Held, room: usize, frame: &[u8]) -> Answer {
-    let unsealed = |answer, place: Place, calls: u64, held: &Held, written: &[u8], name| {
-        let mut o = Out::default();
-        o.bool(place.0).u64(place.1).u64(place.2).u64(calls as usize).bytes(&held.bytes());
-        beside_buffer(room, answer, &o.0, written, name)
-    };
-    let refused = |answer, name| unsealed(answer, (false, 0, 0), 0, held, &[], name);
+    let refused = |answer, calls, written: &[u8], name| unsealed(room, answer, (false, 0, 0), calls, held, written, name);
     if !held.is_secure() {
-        return refused(WRONG, Some(WRONG_STATE));
+        return refused(WRONG, 0, &[], Some(WRONG_STATE));
     }
     let (p, used) = match ParsedPacket::parse(frame) {
         Ok(read) => read,
-        Err(e) => return refused(number(&e), None),
+        Err(e) => return refused(number(&e), 0, &[], None),
     };
     let hidden = p.scb.is_some_and(|b| b.ty.is_encrypted());
     let d = p.data.len();
     if hidden && room < d {
-        return refused((18, d, room), Some(SHORT_WORK));
+        return refused((18, d, room), 0, &[], Some(SHORT_WORK));
     }
     let mut s = together::<Secure>(held);
     let before = calls();
@@ -386,17 +387,17 @@ fn unseal(held: &Held, room: usize, frame: &[u8]) -> Answer {
             assert!(!matches!(e, Error::ShortMac), "01 has it that ShortMac cannot arise");
             assert!(after == *held, "an unsealing that the Rust refuses has moved its session");
             let zeros = vec![0; if hidden { d } else { 0 }];
-            unsealed(number(&e), (false, 0, 0), made, held, &zeros, hidden.then_some(WIPED))
+            refused(number(&e), made, &zeros, hidden.then_some(WIPED))
         }
         Ok(mut text) if hidden => {
             let n = text.len();
             text.resize(d, 0);
-            unsealed(DONE, (true, 0, n), made, &after, &text, None)
+            unsealed(room, DONE, (true, 0, n), made, &after, &text, None)
         }
         Ok(text) => {
             assert_eq!(text, p.data);
             let start = p.data.as_ptr() as usize - frame.as_ptr() as usize;
-            unsealed(DONE, (false, start, d), made, &after, &[], None)
+            unsealed(room, DONE, (false, start, d), made, &after, &[], None)
         }
     }
 }

@@ -166,11 +166,23 @@ fn args(r: &mut Random, held: &Held, op: u8) -> Vec<u8> {
         CONFIRM_RMAC_I => mostly(r, held.first().to_vec()),
         RECEIVE_CHALLENGE => r.bytes(16),
         RECEIVE_SCRYPT => mostly(r, held.server().to_vec()),
-        MAC | VERIFY => {
+        MAC => {
+            let n = length(r);
+            r.bytes(n)
+        }
+        VERIFY => {
             let n = length(r);
             let bytes = r.bytes(n);
-            if op == MAC { bytes } else { [mostly(r, mac_of(held, &bytes).to_vec()), bytes].concat() }
+            [mostly(r, mac_of(held, &bytes).to_vec()), bytes].concat()
         }
+        SEAL_DATA | OPEN_DATA | SEAL | UNSEAL => with_room(r, held, op),
+        _ => Vec::new(),
+    }
+}
+
+/// The same where a buffer is lent: its room comes first.
+fn with_room(r: &mut Random, held: &Held, op: u8) -> Vec<u8> {
+    match op {
         SEAL_DATA => {
             let n = length(r);
             let room = around(r, (n / 16 + 1) * 16);
@@ -183,10 +195,10 @@ fn args(r: &mut Random, held: &Held, op: u8) -> Vec<u8> {
         }
         SEAL => {
             let (encrypt, n) = (r.bool(), length(r));
-            let room = around(r, if encrypt { (n / 16 + 1) * 16 + 14 } else { n + 14 });
+            let room = around(r, sealed_len(encrypt, n));
             sealing(r, room, encrypt, n)
         }
-        UNSEAL => {
+        _ => {
             let mut frame = if r.below(8) == 0 {
                 let n = length(r);
                 random_frame(r, n)
@@ -199,8 +211,11 @@ fn args(r: &mut Random, held: &Held, op: u8) -> Vec<u8> {
             let room = around(r, hidden_len(&frame));
             unsealing(room, &frame)
         }
-        _ => Vec::new(),
     }
+}
+
+fn sealed_len(encrypt: bool, n: usize) -> usize {
+    if encrypt { (n / 16 + 1) * 16 + 14 } else { n + 14 }
 }
 
 fn sealing(r: &mut Random, room: usize, encrypt: bool, n: usize) -> Vec<u8> {
@@ -286,7 +301,7 @@ impl Ends {
     /// A frame from one end; the sender's direction is its own.
     fn send(&mut self, c: &mut Compare, r: &mut Random, from: usize) -> Vec<u8> {
         let (encrypt, n) = (r.bool(), length(r));
-        let total = if encrypt { (n / 16 + 1) * 16 + 14 } else { n + 14 };
+        let total = sealed_len(encrypt, n);
         let mut x = sealing(r, total, encrypt, n);
         (x[5], x[6]) = (x[5] & 3, from as u8);
         if r.below(8) == 0 {
@@ -307,10 +322,42 @@ impl Ends {
     fn together(&self) -> bool {
         self.0[0].chain() == self.0[1].chain()
     }
+
+    /// What may befall a frame on its way: an old one comes first, it comes spoiled, into too short a buffer, after the next one, or
+    /// back to its sender.
+    fn on_the_way(&mut self, c: &mut Compare, r: &mut Random, from: usize, frame: &[u8], sent: &[Vec<u8>]) {
+        let to = 1 - from;
+        match r.below(24) {
+            0 if !sent.is_empty() => {
+                let old = &sent[r.below(sent.len())];
+                self.take(c, to, old, 200);
+            }
+            1..=4 => {
+                let spoilt = damaged(r, frame);
+                let room = around(r, hidden_len(&spoilt));
+                // bytes after it do not spoil it
+                if !spoilt.starts_with(frame) {
+                    self.take(c, to, &spoilt, room);
+                }
+            }
+            5 if hidden_len(frame) > 0 => {
+                self.take(c, to, frame, hidden_len(frame) - 1);
+            }
+            6 => {
+                let mut ahead = Ends(self.0.clone());
+                let later = ahead.send(c, r, from);
+                self.take(c, to, &later, 200);
+            }
+            7 => {
+                self.take(c, from, frame, 200);
+            }
+            _ => {}
+        }
+    }
 }
 
-/// A handshake, then frames of which some are replayed, sent back, spoiled on the way, overtaken and, with losses, lost or crossing each
-/// other. Once the ends have parted, a few frames are tried and two new sessions begin.
+/// A handshake, then frames from either end. With losses, a frame may be lost or cross another; once the ends have parted, a few more
+/// are tried and two new sessions begin.
 fn conversation(c: &mut Compare, r: &mut Random, frames: usize, losses: bool) {
     let mut ends = Ends::secured(c, r);
     let mut sent: Vec<Vec<u8>> = Vec::new();
@@ -319,42 +366,18 @@ fn conversation(c: &mut Compare, r: &mut Random, frames: usize, losses: bool) {
         let from = r.below(2);
         let mut opens = ends.together();
         let frame = ends.send(c, r, from);
-        let need = hidden_len(&frame);
-        match r.below(24) {
-            0 if !sent.is_empty() => {
-                let old = sent[r.below(sent.len())].clone();
-                ends.take(c, 1 - from, &old, 200);
-            }
-            1..=4 => {
-                let spoilt = damaged(r, &frame);
-                let room = around(r, hidden_len(&spoilt));
-                if spoilt[..frame.len().min(spoilt.len())] != frame {
-                    ends.take(c, 1 - from, &spoilt, room);
-                }
-            }
-            5 if need > 0 => {
-                ends.take(c, 1 - from, &frame, need - 1);
-            }
-            6 => {
-                // overtaken by the next
-                let later = ends.send(c, r, from);
-                ends.take(c, 1 - from, &later, 200);
-                ends.take(c, 1 - from, &frame, need);
-                ends.take(c, 1 - from, &later, 200);
-                continue;
-            }
-            7 => {
-                ends.take(c, from, &frame, need);
-            }
-            8 if losses && r.below(4) == 0 => continue,
-            9 if losses && r.below(4) == 0 => {
-                let other = ends.send(c, r, 1 - from);
-                ends.take(c, from, &other, 200);
-                opens = false;
-            }
-            _ => {}
+        ends.on_the_way(c, r, from, &frame, &sent);
+        let mishap = if losses { r.below(100) } else { 100 };
+        if mishap == 0 {
+            continue;
         }
-        let refusal = ends.take(c, 1 - from, &frame, need + r.below(3));
+        if mishap == 1 {
+            let other = ends.send(c, r, 1 - from);
+            ends.take(c, from, &other, 200);
+            opens = false;
+        }
+        let room = hidden_len(&frame) + r.below(3);
+        let refusal = ends.take(c, 1 - from, &frame, room);
         assert!(!opens || refusal == 0 && ends.together(), "the Rust does not open what it sealed");
         sent.push(frame);
         if !ends.together() {
@@ -379,7 +402,7 @@ fn limits(c: &mut Compare, r: &mut Random) {
                 if n > 1000 && from == 1 && n != 65_519 && n != 65_521 {
                     continue;
                 }
-                let total = if encrypt { (n / 16 + 1) * 16 + 14 } else { n + 14 };
+                let total = sealed_len(encrypt, n);
                 let x = sealing(r, 0, encrypt, n);
                 for room in [total - 1, total + 1, total] {
                     let mut x = x.clone();
