@@ -39,7 +39,8 @@ fn check_sum(f: &[u8]) -> TrailerAnswer
 {
     let n = f.len();
     let got = f[n - 1];
-    let want = packet_sums::checksum8(&f[..n - 1]);
+    // the whole frame is summed and its last byte taken out again: faster than a slice that is one shorter
+    let want = std::num::wrapping_add_u8(got, packet_sums::checksum8(f));
     if got == want {
         TrailerAnswer::Good(Trailer::Checksum(got))
     } else {
