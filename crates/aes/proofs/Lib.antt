@@ -1,6 +1,7 @@
 mod Rounds
 mod Steps
 mod Halves
+mod KeyHalves
 pub mod Inverse
 pub mod Laws
 pub mod Expansion

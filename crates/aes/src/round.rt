@@ -11,7 +11,7 @@ ghost use Rattle.aes_field.specs.Packed.{unpacked, columns};
 ghost use Rattle.aes.specs.Halves.{forth, back, part};
 
 // The byte that a table puts in the place of the lowest byte of x.
-fn sub(t: &[u8; 256], x: u64) -> u8
+pub(crate) fn sub(t: &[u8; 256], x: u64) -> u8
     ensures { λ r. ⌜ r ≡ getD (now (t .entry)) (x % 256) 0 ⌝ }
 {
     t[(x & 255) as usize]
@@ -114,7 +114,7 @@ pub(crate) fn unlast(t: &[u8; 256], w: &[u8; 176], at: usize, x: u64, y: u64) ->
     unsubstitute(t, x, y) ^ key(w, at)
 }
 
-fn low(x: u64) -> u8
+pub(crate) fn low(x: u64) -> u8
     ensures { λ r. ⌜ r ≡ x % 256 ⌝ }
 {
     (x & 255) as u8

@@ -1,44 +1,79 @@
--- `aes::schedule::put` meets its contract: before turn i, the first i bytes of k are pasted.
+-- `aes::schedule::put` meets its contract: the bytes one after the other.
 -- Assumes nothing.
-use Prim.Native.Nat.{ℕ, _≤_, _-_, _+_}
 use mathlib.Core.Path.{_≡_, ap, _∙_}
+use mathlib.Core.List.{_++_}
+use Prim.Native.Nat.{ℕ, zero, suc, _+_, _/_, _%_, _^_, _<_}
+use native.Mathlib.Nat.{add-zero, add-suc}
 use native.Mathlib.Omega.{arith}
-use borrow.Author.Needs.{needs}
-use mathlib.Core.List.{List}
-use native.Mathlib.Nat.{le-antisymm}
-use native.Mathlib.Numerals.{add-one}
-use lib.ListN.{length, getD, set}
-use lib.Seq.{paste, paste-zero, paste-suc}
+use lib.Dec.{lit<}
+use lib.ListN.{set}
+use lib.Seq.{sets-eq}
+use mir.Syntax.{w64}
+use mir.Val.{Fits}
+use Rattle.aes_field.specs.Packed.{unpacked}
+use Rattle.aes_field.proofs.Packing.{after, after-is}
 use Rattle.aes.proofs.schedule.put.Statement.{statement}
 use Rattle.aes.proofs.schedule.put.Tie as tie
 
-abbrev Inv-loop : tie.InvT-loop
-Inv-loop w₀ at k i₀ w i = (i ≤ 16) × (w ≡ paste w₀ at k i)
+-- the place j after n
+abbrev past : ℕ → ℕ → ℕ
+past n zero = n
+past n (suc j) = suc (past n j)
 
-abbrev μ-loop : tie.MeasureT-loop
-μ-loop w₀ at k i₀ w i = 16 - i
+past-is : (n j : ℕ) → n + j ≡ past n j
+past-is n zero = add-zero n
+past-is n (suc j) = add-suc n j ∙ ap suc (past-is n j)
 
-loop-holds : tie.Need-loop-holds Inv-loop μ-loop
-loop-holds c = (omega arith, paste-zero (c .args .w .now) (c .args .at) (c .args .t3))
-
-loop-again : tie.Need-loop-again Inv-loop μ-loop
-loop-again c =
-    let a = c .before .before .args in
-    let i = c .before .loop .i in
-    let m : length (a .t3) ≡ 16 = search needs in (
-      omega arith,
-      ap (λ (x : List ℕ). set x (a .at + i) (getD (a .t3) i 0)) (c .before .loop .inv .1)
-          ∙ paste-suc (a .w .now) (a .at) (a .t3) i 0 (omega arith) (omega arith) ∙ rw add-one,
-    )
-
-returns : tie.Need-returns Inv-loop μ-loop
+returns : tie.Need-returns
+unfolding unpacked
 returns c =
-    let l = c .before .loop in
-    l .inv .1 ∙ ap (paste (c .before .before .args .w .now) (c .before .before .args .at) (c .before .before .args .t3)) (le-antisymm (l .inv .0) (c .loop-test .left))
+    let a = c .before .before .before .before .before .before .before .before .before .before .before .before .before .before .before .before .args in
+    let n : (j : ℕ) → a .at + j ≡ past (a .at) j = past-is (a .at) in
+    let at : (x i : ℕ) → x / 256 ^ i % 256 ≡ after x i % 256 = λ x i. ap (λ (z : ℕ). z % 256) (after-is x i) in
+    (λ i.
+    set (set (set (set (set (set (set (set (set (set (set (set (set (set (set (set (a .w .now) (a .at) (c .before .before .before .before .before .before .before .before .before .before .before .before .before .before .before .low .ensures i))
+    (n 1 i) ((c .before .before .before .before .before .before .before .before .before .before .before .before .before .before .low2 .ensures ∙ at (a .x) 1) i))
+    (n 2 i) ((c .before .before .before .before .before .before .before .before .before .before .before .before .before .low3 .ensures ∙ at (a .x) 2) i))
+    (n 3 i) ((c .before .before .before .before .before .before .before .before .before .before .before .before .low4 .ensures ∙ at (a .x) 3) i))
+    (n 4 i) ((c .before .before .before .before .before .before .before .before .before .before .before .low5 .ensures ∙ at (a .x) 4) i))
+    (n 5 i) ((c .before .before .before .before .before .before .before .before .before .before .low6 .ensures ∙ at (a .x) 5) i))
+    (n 6 i) ((c .before .before .before .before .before .before .before .before .before .low7 .ensures ∙ at (a .x) 6) i))
+    (n 7 i) ((c .before .before .before .before .before .before .before .before .low8 .ensures ∙ at (a .x) 7) i))
+    (n 8 i) (c .before .before .before .before .before .before .before .low9 .ensures i))
+    (n 9 i) ((c .before .before .before .before .before .before .low10 .ensures ∙ at (a .y) 1) i))
+    (n 10 i) ((c .before .before .before .before .before .low11 .ensures ∙ at (a .y) 2) i))
+    (n 11 i) ((c .before .before .before .before .low12 .ensures ∙ at (a .y) 3) i))
+    (n 12 i) ((c .before .before .before .low13 .ensures ∙ at (a .y) 4) i))
+    (n 13 i) ((c .before .before .low14 .ensures ∙ at (a .y) 5) i))
+    (n 14 i) ((c .before .low15 .ensures ∙ at (a .y) 6) i))
+    (n 15 i) ((c .low16 .ensures ∙ at (a .y) 7) i))
+    ∙ sets-eq (unpacked 8 (a .x) ++ unpacked 8 (a .y)) (a .w .now) (a .at) (omega arith)
+
+-- the stores stay within w
+fits : (s : tie.Start) (j : ℕ) → j < 16 → Fits w64 (s .args .at + j)
+fits s j h = omega arith
+
+inside : (s : tie.Start) (j : ℕ) → j < 16 → s .args .at + j < 176
+inside s j h = omega arith
 
 pub put-spec : {M : Type 1} → statement M
 put-spec =
     tie.close
-    (tie.spec Inv-loop μ-loop loop-holds
-    (λ c. omega arith) (λ c. omega arith) (λ c. omega arith) (λ c. omega arith) (λ c. omega arith)
-    loop-again returns)
+    (tie.spec
+    (λ c κs. tt) (λ c. omega arith)
+    (λ c κs. tt) (λ c. fits (c .before .before) 1 (lit< tt)) (λ c. inside (c .before .before) 1 (lit< tt))
+    (λ c κs. tt) (λ c. fits (c .before .before .before) 2 (lit< tt)) (λ c. inside (c .before .before .before) 2 (lit< tt))
+    (λ c κs. tt) (λ c. fits (c .before .before .before .before) 3 (lit< tt)) (λ c. inside (c .before .before .before .before) 3 (lit< tt))
+    (λ c κs. tt) (λ c. fits (c .before .before .before .before .before) 4 (lit< tt)) (λ c. inside (c .before .before .before .before .before) 4 (lit< tt))
+    (λ c κs. tt) (λ c. fits (c .before .before .before .before .before .before) 5 (lit< tt)) (λ c. inside (c .before .before .before .before .before .before) 5 (lit< tt))
+    (λ c κs. tt) (λ c. fits (c .before .before .before .before .before .before .before) 6 (lit< tt)) (λ c. inside (c .before .before .before .before .before .before .before) 6 (lit< tt))
+    (λ c κs. tt) (λ c. fits (c .before .before .before .before .before .before .before .before) 7 (lit< tt)) (λ c. inside (c .before .before .before .before .before .before .before .before) 7 (lit< tt))
+    (λ c κs. tt) (λ c. fits (c .before .before .before .before .before .before .before .before .before) 8 (lit< tt)) (λ c. inside (c .before .before .before .before .before .before .before .before .before) 8 (lit< tt))
+    (λ c κs. tt) (λ c. fits (c .before .before .before .before .before .before .before .before .before .before) 9 (lit< tt)) (λ c. inside (c .before .before .before .before .before .before .before .before .before .before) 9 (lit< tt))
+    (λ c κs. tt) (λ c. fits (c .before .before .before .before .before .before .before .before .before .before .before) 10 (lit< tt)) (λ c. inside (c .before .before .before .before .before .before .before .before .before .before .before) 10 (lit< tt))
+    (λ c κs. tt) (λ c. fits (c .before .before .before .before .before .before .before .before .before .before .before .before) 11 (lit< tt)) (λ c. inside (c .before .before .before .before .before .before .before .before .before .before .before .before) 11 (lit< tt))
+    (λ c κs. tt) (λ c. fits (c .before .before .before .before .before .before .before .before .before .before .before .before .before) 12 (lit< tt)) (λ c. inside (c .before .before .before .before .before .before .before .before .before .before .before .before .before) 12 (lit< tt))
+    (λ c κs. tt) (λ c. fits (c .before .before .before .before .before .before .before .before .before .before .before .before .before .before) 13 (lit< tt)) (λ c. inside (c .before .before .before .before .before .before .before .before .before .before .before .before .before .before) 13 (lit< tt))
+    (λ c κs. tt) (λ c. fits (c .before .before .before .before .before .before .before .before .before .before .before .before .before .before .before) 14 (lit< tt)) (λ c. inside (c .before .before .before .before .before .before .before .before .before .before .before .before .before .before .before) 14 (lit< tt))
+    (λ c κs. tt) (λ c. fits (c .before .before .before .before .before .before .before .before .before .before .before .before .before .before .before .before) 15 (lit< tt)) (λ c. inside (c .before .before .before .before .before .before .before .before .before .before .before .before .before .before .before .before) 15 (lit< tt))
+    returns)
