@@ -44,15 +44,16 @@ pub enum MacPart {
     At(usize),
 }
 
-// A frame that was read. Each place is counted from the frame's first byte.
+// A frame that was read. Each place is counted from the frame's first byte. `len` is not the last field, because the compiler would
+// make one store of it and of a refusal's last number, and then keep the whole answer in memory.
 pub struct ParsedPacket {
     pub addr: Address,
-    pub len: usize,
     pub ctrl: ControlByte,
     pub block: BlockPart,
     pub code: u8,
     pub data_start: usize,
     pub data_len: usize,
+    pub len: usize,
     pub mac: MacPart,
     pub trailer: Trailer,
 }
@@ -117,12 +118,12 @@ fn parse_parts(
     match check(f, ctrl.crc) {
         TrailerAnswer::Good(trailer) => Parsed::Good(ParsedPacket {
             addr,
-            len: n,
             ctrl,
             block,
             code: f[at],
             data_start: at + 1,
             data_len: n - (at + 1 + m + t),
+            len: n,
             mac: mac_part(mac, n - (m + t)),
             trailer,
         }),
