@@ -31,7 +31,7 @@ fn mac(x: &[u8], w: &[u8]) -> usize {
 }
 
 // Room, key, start value, bytes. Padding looks at the bytes only.
-pub fn pad(op: u8, x: &[u8], w: &[u8], out: &mut [u8]) -> usize {
+pub(crate) fn pad(op: u8, x: &[u8], w: &[u8], out: &mut [u8]) -> usize {
     let data = given::from(x, 36);
     if op == 22 {
         want::answer(w, 0, ffi::malstrink_pad_mac(data, out))
@@ -40,7 +40,7 @@ pub fn pad(op: u8, x: &[u8], w: &[u8], out: &mut [u8]) -> usize {
     }
 }
 
-pub fn cbc(op: u8, x: &[u8], w: &[u8], out: &mut [u8]) -> usize {
+pub(crate) fn cbc(op: u8, x: &[u8], w: &[u8], out: &mut [u8]) -> usize {
     let key = given::sixteen(given::from(x, 4));
     let iv = given::sixteen(given::from(x, 20));
     let data = given::from(x, 36);
@@ -51,7 +51,7 @@ pub fn cbc(op: u8, x: &[u8], w: &[u8], out: &mut [u8]) -> usize {
     }
 }
 
-pub fn call(op: u8, x: &[u8], w: &[u8]) -> usize {
+pub(crate) fn call(op: u8, x: &[u8], w: &[u8]) -> usize {
     match op {
         24 => want::answer(w, 0, ffi::malstrink_unpad_data(x)),
         25 => mac(x, w),

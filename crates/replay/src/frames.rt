@@ -64,7 +64,7 @@ fn mac_of(x: &[u8]) -> CMac {
 }
 
 // Fields, MAC, the lengths of block and data, the room; then block and data.
-pub fn build(op: u8, x: &[u8], w: &[u8], out: &mut [u8]) -> usize {
+pub(crate) fn build(op: u8, x: &[u8], w: &[u8], out: &mut [u8]) -> usize {
     let n = given::four(given::from(x, 11));
     let parts = given::from(x, 23);
     let block = given::first(parts, n);
@@ -84,7 +84,7 @@ pub fn build(op: u8, x: &[u8], w: &[u8], out: &mut [u8]) -> usize {
     }
 }
 
-pub fn call(op: u8, x: &[u8], w: &[u8]) -> usize {
+pub(crate) fn call(op: u8, x: &[u8], w: &[u8]) -> usize {
     let b = given::byte(x, 0);
     match op {
         0 => want::byte(w, 0, ffi::malstrink_checksum8(x)),

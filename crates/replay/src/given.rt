@@ -3,16 +3,16 @@ ghost use Prim.Native.Nat.{_≤_};
 use ffi::Bytes8;
 use ffi::Bytes16;
 
-pub fn byte(x: &[u8], at: usize) -> u8 {
+pub(crate) fn byte(x: &[u8], at: usize) -> u8 {
     if at < x.len() { x[at] } else { 0 }
 }
 
-pub fn flag(x: &[u8], at: usize) -> bool {
+pub(crate) fn flag(x: &[u8], at: usize) -> bool {
     byte(x, at) != 0
 }
 
 // From a place on.
-pub fn from(x: &[u8], at: usize) -> &[u8] {
+pub(crate) fn from(x: &[u8], at: usize) -> &[u8] {
     if at < x.len() {
         return &x[at..];
     }
@@ -20,14 +20,14 @@ pub fn from(x: &[u8], at: usize) -> &[u8] {
 }
 
 // The first n bytes, or all.
-pub fn first(x: &[u8], n: usize) -> &[u8] {
+pub(crate) fn first(x: &[u8], n: usize) -> &[u8] {
     if n < x.len() {
         return &x[..n];
     }
     x
 }
 
-pub fn eight(x: &[u8]) -> Bytes8 {
+pub(crate) fn eight(x: &[u8]) -> Bytes8 {
     Bytes8 {
         bytes: [
             byte(x, 0),
@@ -42,7 +42,7 @@ pub fn eight(x: &[u8]) -> Bytes8 {
     }
 }
 
-pub fn sixteen(x: &[u8]) -> Bytes16 {
+pub(crate) fn sixteen(x: &[u8]) -> Bytes16 {
     Bytes16 {
         bytes: [
             byte(x, 0),
@@ -72,18 +72,18 @@ fn wide(x: u8) -> usize
 }
 
 // Two bytes, the low one first.
-pub fn two(x: &[u8]) -> usize
+pub(crate) fn two(x: &[u8]) -> usize
     ensures { λ r. ⌜ r ≤ 65535 ⌝ }
 {
     wide(byte(x, 1)) * 256 + wide(byte(x, 0))
 }
 
-pub fn four(x: &[u8]) -> usize
+pub(crate) fn four(x: &[u8]) -> usize
     ensures { λ r. ⌜ r ≤ 4294967295 ⌝ }
 {
     two(from(x, 2)) * 65536 + two(x)
 }
 
-pub fn number(x: &[u8]) -> usize {
+pub(crate) fn number(x: &[u8]) -> usize {
     four(from(x, 4)) * 4294967296 + four(x)
 }

@@ -65,7 +65,7 @@ fn left(w: &[u8], at: usize, out: &[u8; 1024], room: usize) -> usize {
     want::bytes(w, at, given::first(out, room + 16))
 }
 
-pub fn call(op: u8, x: &[u8], w: &[u8]) -> usize {
+pub(crate) fn call(op: u8, x: &[u8], w: &[u8]) -> usize {
     let room = given::four(given::from(x, room_at(op)));
     let mut out = filled();
     let p = lent(op, x, w, &mut out, room);

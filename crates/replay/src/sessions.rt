@@ -153,7 +153,7 @@ fn secure(op: u8, all: &[u8], w: &[u8]) -> usize {
 }
 
 // The session, the buffer's room, bytes.
-pub fn on_session(op: u8, all: &[u8], w: &[u8], out: &mut [u8]) -> usize {
+pub(crate) fn on_session(op: u8, all: &[u8], w: &[u8], out: &mut [u8]) -> usize {
     let s = session_of(all);
     let data = given::from(all, 110);
     if op == 42 {
@@ -164,7 +164,7 @@ pub fn on_session(op: u8, all: &[u8], w: &[u8], out: &mut [u8]) -> usize {
 }
 
 // The session, the buffer's room, what is to be sealed, its data.
-pub fn seal(all: &[u8], w: &[u8], out: &mut [u8]) -> usize {
+pub(crate) fn seal(all: &[u8], w: &[u8], out: &mut [u8]) -> usize {
     let asked = CToSeal {
         addr: given::byte(all, 110),
         sqn: given::byte(all, 111),
@@ -183,7 +183,7 @@ pub fn seal(all: &[u8], w: &[u8], out: &mut [u8]) -> usize {
 }
 
 // The session, the work buffer's room, a frame.
-pub fn unseal(all: &[u8], w: &[u8], work: &mut [u8]) -> usize {
+pub(crate) fn unseal(all: &[u8], w: &[u8], work: &mut [u8]) -> usize {
     let r = ffi::malstrink_unseal(session_of(all), given::from(all, 110), work);
     let answer = r.answer;
     let session = r.session;
@@ -208,7 +208,7 @@ fn payload_test(x: &[u8], w: &[u8]) -> usize {
     )
 }
 
-pub fn call(op: u8, x: &[u8], w: &[u8]) -> usize {
+pub(crate) fn call(op: u8, x: &[u8], w: &[u8]) -> usize {
     match op {
         28 => session_like(w, 0, ffi::malstrink_session_new(given::sixteen(x))),
         29 => {

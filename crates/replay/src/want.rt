@@ -8,7 +8,7 @@ use ffi::CKeys;
 // No place: no answer is as long.
 pub const NONE: usize = 0xffff_ffff_ffff_ffff;
 
-pub fn byte(want: &[u8], at: usize, x: u8) -> usize {
+pub(crate) fn byte(want: &[u8], at: usize, x: u8) -> usize {
     if at < want.len() {
         if want[at] == x {
             return at + 1;
@@ -17,7 +17,7 @@ pub fn byte(want: &[u8], at: usize, x: u8) -> usize {
     NONE
 }
 
-pub fn bytes(want: &[u8], at: usize, x: &[u8]) -> usize {
+pub(crate) fn bytes(want: &[u8], at: usize, x: &[u8]) -> usize {
     let mut place = at;
     for i in 0..x.len() {
         place = byte(want, place, x[i]);
@@ -25,12 +25,12 @@ pub fn bytes(want: &[u8], at: usize, x: &[u8]) -> usize {
     place
 }
 
-pub fn block(want: &[u8], at: usize, x: Bytes16) -> usize {
+pub(crate) fn block(want: &[u8], at: usize, x: Bytes16) -> usize {
     let b = x.bytes;
     bytes(want, at, &b)
 }
 
-pub fn keys(want: &[u8], at: usize, k: CKeys) -> usize {
+pub(crate) fn keys(want: &[u8], at: usize, k: CKeys) -> usize {
     let s_enc = k.s_enc;
     let s_mac1 = k.s_mac1;
     let s_mac2 = k.s_mac2;
@@ -38,7 +38,7 @@ pub fn keys(want: &[u8], at: usize, k: CKeys) -> usize {
     bytes(want, p, &s_mac2)
 }
 
-pub fn flag(want: &[u8], at: usize, x: bool) -> usize {
+pub(crate) fn flag(want: &[u8], at: usize, x: bool) -> usize {
     if x {
         byte(want, at, 1)
     } else {
@@ -54,7 +54,7 @@ fn two(want: &[u8], at: usize, x: usize) -> usize {
     byte(want, byte(want, at, (x % 256) as u8), (x / 256 % 256) as u8)
 }
 
-pub fn short(want: &[u8], at: usize, x: u16) -> usize {
+pub(crate) fn short(want: &[u8], at: usize, x: u16) -> usize {
     two(want, at, wide(x))
 }
 
@@ -63,17 +63,17 @@ fn four(want: &[u8], at: usize, x: usize) -> usize {
 }
 
 // The low byte of a number comes first.
-pub fn number(want: &[u8], at: usize, x: usize) -> usize {
+pub(crate) fn number(want: &[u8], at: usize, x: usize) -> usize {
     four(want, four(want, at, x), x / 4294967296)
 }
 
-pub fn answer(want: &[u8], at: usize, x: CAnswer) -> usize {
+pub(crate) fn answer(want: &[u8], at: usize, x: CAnswer) -> usize {
     let tag = byte(want, at, x.refusal);
     let a = number(want, tag, x.a);
     number(want, a, x.b)
 }
 
-pub fn ciphered(want: &[u8], c: CCiphered) -> usize {
+pub(crate) fn ciphered(want: &[u8], c: CCiphered) -> usize {
     let a = c.answer;
     number(want, answer(want, 0, a), c.calls)
 }
