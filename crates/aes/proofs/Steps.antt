@@ -102,59 +102,42 @@ add-back s w r b =
 cons : {x y : ℕ} {xs ys : List ℕ} → x ≡ y → xs ≡ ys → x ∷ xs ≡ y ∷ ys
 cons p q = λ i. p i ∷ q i
 
--- a column, by the places of its bytes
-col : (s : List ℕ) → Block s → (p q r t : ℕ)
-    → (let g : ℕ → ℕ = λ i. getD s i 0 in unmixByte (mixByte (g p) (g q) (g r) (g t)) (mixByte (g q) (g r) (g t) (g p)) (mixByte (g r) (g t) (g p) (g q)) (mixByte (g t) (g p) (g q) (g r)) ≡ g p)
-col s b p q r t = unmix-mix (getD s p 0) (getD s q 0) (getD s r 0) (getD s t 0) (b .bytes p) (b .bytes q) (b .bytes r) (b .bytes t)
+-- each byte made by f from its own and the three below it in its column
+abbrev mixedBy : (ℕ → ℕ → ℕ → ℕ → ℕ) → List ℕ → List ℕ
+mixedBy f s = blockOf (λ i. f (below s i 0) (below s i 1) (below s i 2) (below s i 3))
 
-uncol : (s : List ℕ) → Block s → (p q r t : ℕ)
-    → (let g : ℕ → ℕ = λ i. getD s i 0 in mixByte (unmixByte (g p) (g q) (g r) (g t)) (unmixByte (g q) (g r) (g t) (g p)) (unmixByte (g r) (g t) (g p) (g q)) (unmixByte (g t) (g p) (g q) (g r)) ≡ g p)
-uncol s b p q r t = mix-unmix (getD s p 0) (getD s q 0) (getD s r 0) (getD s t 0) (b .bytes p) (b .bytes q) (b .bytes r) (b .bytes t)
-
-mix-bytes : (s : List ℕ) → Block s → invMixColumns (mixColumns s) ≡ blockOf (λ i. getD s i 0)
-unfolding blockOf below mixColumns invMixColumns
-mix-bytes s b =
-    (cons (col s b 0 1 2 3)
-    (cons (col s b 1 2 3 0)
-    (cons (col s b 2 3 0 1)
-    (cons (col s b 3 0 1 2)
-    (cons (col s b 4 5 6 7)
-    (cons (col s b 5 6 7 4)
-    (cons (col s b 6 7 4 5)
-    (cons (col s b 7 4 5 6)
-    (cons (col s b 8 9 10 11)
-    (cons (col s b 9 10 11 8)
-    (cons (col s b 10 11 8 9)
-    (cons (col s b 11 8 9 10)
-    (cons (col s b 12 13 14 15)
-    (cons (col s b 13 14 15 12)
-    (cons (col s b 14 15 12 13)
-    (cons (col s b 15 12 13 14)
-    refl))))))))))))))))
-
-unmix-bytes : (s : List ℕ) → Block s → mixColumns (invMixColumns s) ≡ blockOf (λ i. getD s i 0)
-unfolding blockOf below mixColumns invMixColumns
-unmix-bytes s b =
-    (cons (uncol s b 0 1 2 3)
-    (cons (uncol s b 1 2 3 0)
-    (cons (uncol s b 2 3 0 1)
-    (cons (uncol s b 3 0 1 2)
-    (cons (uncol s b 4 5 6 7)
-    (cons (uncol s b 5 6 7 4)
-    (cons (uncol s b 6 7 4 5)
-    (cons (uncol s b 7 4 5 6)
-    (cons (uncol s b 8 9 10 11)
-    (cons (uncol s b 9 10 11 8)
-    (cons (uncol s b 10 11 8 9)
-    (cons (uncol s b 11 8 9 10)
-    (cons (uncol s b 12 13 14 15)
-    (cons (uncol s b 13 14 15 12)
-    (cons (uncol s b 14 15 12 13)
-    (cons (uncol s b 15 12 13 14)
+-- what g did to a column f undoes: so they do to the sixteen bytes
+columns-back : (f g : ℕ → ℕ → ℕ → ℕ → ℕ) (s : List ℕ)
+    → ((p q r t : ℕ) → (let a : ℕ → ℕ = λ i. getD s i 0 in f (g (a p) (a q) (a r) (a t)) (g (a q) (a r) (a t) (a p)) (g (a r) (a t) (a p) (a q)) (g (a t) (a p) (a q) (a r)) ≡ a p))
+    → mixedBy f (mixedBy g s) ≡ blockOf (λ i. getD s i 0)
+unfolding blockOf below
+columns-back f g s h =
+    (cons (h 0 1 2 3)
+    (cons (h 1 2 3 0)
+    (cons (h 2 3 0 1)
+    (cons (h 3 0 1 2)
+    (cons (h 4 5 6 7)
+    (cons (h 5 6 7 4)
+    (cons (h 6 7 4 5)
+    (cons (h 7 4 5 6)
+    (cons (h 8 9 10 11)
+    (cons (h 9 10 11 8)
+    (cons (h 10 11 8 9)
+    (cons (h 11 8 9 10)
+    (cons (h 12 13 14 15)
+    (cons (h 13 14 15 12)
+    (cons (h 14 15 12 13)
+    (cons (h 15 12 13 14)
     refl))))))))))))))))
 
 pub mix-back : (s : List ℕ) → Block s → invMixColumns (mixColumns s) ≡ s
-mix-back s b = mix-bytes s b ∙ whole s (b .size)
+unfolding mixColumns invMixColumns
+mix-back s b =
+    columns-back unmixByte mixByte s (λ p q r t. unmix-mix (getD s p 0) (getD s q 0) (getD s r 0) (getD s t 0) (b .bytes p) (b .bytes q) (b .bytes r) (b .bytes t))
+    ∙ whole s (b .size)
 
 pub unmix-back : (s : List ℕ) → Block s → mixColumns (invMixColumns s) ≡ s
-unmix-back s b = unmix-bytes s b ∙ whole s (b .size)
+unfolding mixColumns invMixColumns
+unmix-back s b =
+    columns-back mixByte unmixByte s (λ p q r t. mix-unmix (getD s p 0) (getD s q 0) (getD s r 0) (getD s t 0) (b .bytes p) (b .bytes q) (b .bytes r) (b .bytes t))
+    ∙ whole s (b .size)

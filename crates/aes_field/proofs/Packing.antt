@@ -62,23 +62,22 @@ zip f [] m = []
 zip f (x ∷ l) [] = []
 zip f (x ∷ l) (y ∷ m) = f x y ∷ zip f l m
 
-pub packed-and : (l m : List ℕ) → length l ≡ length m → Bytes l → Bytes m → bitAnd (packed l) (packed m) ≡ packed (zip bitAnd l m)
+-- an operation that keeps to the bytes of a number
+packed-each : (f : ℕ → ℕ → ℕ) → f 0 0 ≡ 0 → ((p q x y : ℕ) → x < 256 → y < 256 → f (p * 256 + x) (q * 256 + y) ≡ f p q * 256 + f x y)
+    → (l m : List ℕ) → length l ≡ length m → Bytes l → Bytes m → f (packed l) (packed m) ≡ packed (zip f l m)
 unfolding packed
-packed-and [] [] e b c = refl
-packed-and [] (y ∷ m) e b c = absurd (omega arith)
-packed-and (x ∷ l) [] e b c = absurd (omega arith)
-packed-and (x ∷ l) (y ∷ m) e b c =
-    and-block 8 (packed l) (packed m) x y (b 0) (c 0)
-    ∙ ap (λ (z : ℕ). z * 256 + bitAnd x y) (packed-and l m (omega arith) (λ i. b (suc i)) (λ i. c (suc i)))
+packed-each f z h [] [] e b c = z
+packed-each f z h [] (y ∷ m) e b c = absurd (omega arith)
+packed-each f z h (x ∷ l) [] e b c = absurd (omega arith)
+packed-each f z h (x ∷ l) (y ∷ m) e b c =
+    h (packed l) (packed m) x y (b 0) (c 0)
+    ∙ ap (λ (n : ℕ). n * 256 + f x y) (packed-each f z h l m (omega arith) (λ i. b (suc i)) (λ i. c (suc i)))
+
+pub packed-and : (l m : List ℕ) → length l ≡ length m → Bytes l → Bytes m → bitAnd (packed l) (packed m) ≡ packed (zip bitAnd l m)
+packed-and = packed-each bitAnd refl (and-block 8)
 
 pub packed-xor : (l m : List ℕ) → length l ≡ length m → Bytes l → Bytes m → bitXor (packed l) (packed m) ≡ packed (zip bitXor l m)
-unfolding packed
-packed-xor [] [] e b c = refl
-packed-xor [] (y ∷ m) e b c = absurd (omega arith)
-packed-xor (x ∷ l) [] e b c = absurd (omega arith)
-packed-xor (x ∷ l) (y ∷ m) e b c =
-    xor-block 8 (packed l) (packed m) x y (b 0) (c 0)
-    ∙ ap (λ (z : ℕ). z * 256 + bitXor x y) (packed-xor l m (omega arith) (λ i. b (suc i)) (λ i. c (suc i)))
+packed-xor = packed-each bitXor refl (xor-block 8)
 
 packed-times : (f : ℕ → ℕ) (k : ℕ) (l : List ℕ) → packed (map (λ a. f a * k) l) ≡ packed (map f l) * k
 unfolding packed

@@ -5,15 +5,15 @@ use mathlib.Core.List.{List, [], append-nil}
 use mathlib.Core.Path.{_≡_, refl, sym, ap, _∙_}
 use Prim.Native.Nat.{ℕ, _≤_}
 use native.Mathlib.Omega.{arith}
-use borrow.Author.Tests.{le-ltb}
 use lib.ListN.{length, take}
-use Rattle.laws.specs.Answer.{Answer.given, refuseIf}
+use Rattle.laws.specs.Answer.{Answer.given}
 use Rattle.laws.specs.Over.{write}
 use Rattle.laws.proofs.Overwrite.{take-write}
 use Rattle.packet_head.specs.Block.{hasMac, scsOf}
-use Rattle.packet_head.specs.Trailer.{trailerLen}
+use Rattle.packet_head.specs.Trailer.{trailerLen, macLen}
 use Rattle.packet_parse.specs.Frame.{parseOf}
 use Rattle.packet_build.specs.Build.{Parts, totalN, testOf, bytesOf, buildOf}
+use Rattle.packet_build.proofs.Sizes.{passes}
 use Rattle.packet_build.proofs.Frames.{build-given}
 use Rattle.packet.proofs.Built.{placesOf}
 use Rattle.packet.proofs.ReadBack.{built-reads-back}
@@ -31,10 +31,16 @@ module _ (ty : ℕ) (w : Wire) (x : List ℕ) (known : scsOf ty ≡ given ty) (b
   total = totalN (w .useCrc) true 0 (length (w .block)) (length x)
 
   passed : testOf (w .sqn, w .useCrc, true) true (hasMac ty) 0 (length (w .block)) (length x) (length (w .out)) ≡ given total
-  unfolding testOf refuseIf
   passed =
-      let most : total ≤ 65535 = omega (arith, tail-most (w .useCrc), h .block) in
-      rw (le-ltb 3 (w .sqn) (h .sqn), bare, le-ltb 253 (length (w .block)) (h .block), le-ltb 65535 total most, le-ltb (length (w .out)) total (h .room))
+      passes (w .sqn, w .useCrc, true) true (hasMac ty) 0 (length (w .block)) (length x) (length (w .out)) total (record {
+        sqn = h .sqn;
+        flag = refl;
+        macs = ap macLen (sym bare);
+        total = refl;
+        most = omega (arith, tail-most (w .useCrc), h .block);
+        room = h .room;
+        small = h .block;
+      })
 
   built : buildOf parts (length (w .out)) ≡ given (bytesOf parts total)
   built = build-given parts (length (w .out)) total passed

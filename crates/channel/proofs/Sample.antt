@@ -10,6 +10,7 @@ use lib.ListN.{replicate, getD, length-replicate}
 use Rattle.laws.specs.Bytes.{zeros}
 use Rattle.laws.proofs.ByteLists.{bytes-replicate}
 use Rattle.secure_cipher.proofs.PadLaws.{length-padData}
+use Rattle.secure_keys.specs.Keys.{Random}
 use Rattle.secure_session.specs.Session.{fresh}
 use Rattle.secure_session.specs.declared.session.End.{End}
 use Rattle.secure_session.specs.declared.session.End.the-variants.{Controller, Reader}
@@ -17,7 +18,7 @@ use Rattle.secure_session.specs.declared.session.Session.{Session}
 use Rattle.secure_session.specs.declared.session.State.the-variants.{Disconnected}
 use Rattle.secure_seal.specs.Seal.{dataLen}
 use Rattle.channel.specs.Carried.{Wire, WireFits}
-use Rattle.channel.specs.Handshake.{Wires, WiresFit, Random}
+use Rattle.channel.specs.Handshake.{Wires, WiresFit}
 use Rattle.channel.specs.Talk.{Send}
 use Rattle.channel.specs.Demand.{Conversation, Fits, AllFit, Proper, Agree, Each, Demand3}
 use Rattle.channel.proofs.Demand3.{demand3}

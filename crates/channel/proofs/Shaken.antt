@@ -1,51 +1,44 @@
--- The framed handshake is the handshake of the session's own calls: it succeeds, and leaves the ends ready, both ways.
+-- The framed handshake succeeds, and leaves the ends ready, both ways: each message arrives, and of the calls the session's laws speak.
 -- Assumes nothing.
 use mathlib.Core.List.{List, _++_}
-use mathlib.Core.Path.{_≡_, refl, sym, _∙_, subst}
+use mathlib.Core.Path.{_≡_, refl, sym, subst}
 use Prim.Native.Nat.{ℕ}
 use native.Mathlib.Omega.{arith}
 use lib.ListN.{length, take, drop, length-append}
 use lib.Seq.{take-at, drop-at}
-use Rattle.laws.specs.Answer.{refuseIf}
+use Rattle.laws.specs.Answer.{Answer.given, refuseIf}
 use Rattle.laws.specs.Blocks.{Block}
 use Rattle.packet_head.specs.Block.{scsOf}
-use Rattle.secure_keys.proofs.KeysLaws.{Nonce, client-block, server-block}
-use Rattle.secure_session.specs.Hand.{Hand, shake}
+use Rattle.secure_keys.specs.Keys.{Random}
+use Rattle.secure_keys.proofs.KeysLaws.{client-block, server-block}
+use Rattle.secure_session.specs.Apart.{Apart}
+use Rattle.secure_session.specs.Session.{secured}
 use Rattle.secure_session.specs.declared.session.Session.{Session}
 use Rattle.secure_session.proofs.Shaken as session
 use Rattle.secure_session.proofs.Shaken.{Ready}
 use Rattle.channel.specs.Carried.{carried}
-use Rattle.channel.specs.Handshake.{Wires, WiresFit, Apart, Random, shakeIn, Given, Succeeded}
+use Rattle.channel.specs.Handshake.{Hand, Wires, WiresFit, shakeIn, Given, Succeeded}
 use Rattle.channel.proofs.CarriedLaws.{carried-eq}
 
-apart : (c r : Session) → Apart c r → session.Apart c r
-apart c r h = record { controller = h .controller; reader = h .reader; from = h .controllerState; to = h .readerState; one-key = h .oneKey; key = h .key }
-
-nonce : (a : List ℕ) → Random a → Nonce a
-nonce a h = record { size = h .size; bytes = h .bytes }
-
 module _ (w : Wires) (c r : Session) (a b : List ℕ) (hw : WiresFit w) (h : Apart c r) (ha : Random a) (hb : Random b) where
-  abbrev ends : session.Apart c r
-  ends = apart c r h
-
   -- the values on their way
   abbrev client : List ℕ
-  client = session.client c r a b ends
+  client = session.client c r a b h
 
   abbrev server : List ℕ
-  server = session.server c r a b ends
+  server = session.server c r a b h
 
   abbrev first : List ℕ
-  first = session.first c r a b ends
+  first = session.first c r a b h
 
   client-size : Block client
-  client-size = client-block _ a b (session.keys-good c r a b ends (nonce a ha) (nonce b hb) .enc) (nonce a ha) (nonce b hb)
+  client-size = client-block _ a b (session.keys-good c r a b h ha hb .enc) ha hb
 
   server-size : Block server
-  server-size = server-block _ a b (session.keys-good c r a b ends (nonce a ha) (nonce b hb) .enc) (nonce a ha) (nonce b hb)
+  server-size = server-block _ a b (session.keys-good c r a b h ha hb .enc) ha hb
 
   first-size : Block first
-  first-size = session.chain-block c r a b ends (nonce a ha) (nonce b hb)
+  first-size = session.chain-block c r a b h ha hb
 
   abbrev reply : List ℕ
   reply = r .cuid ++ (b ++ client)
@@ -77,37 +70,46 @@ module _ (w : Wires) (c r : Session) (a b : List ℕ) (hw : WiresFit w) (h : Apa
   cut₂ : drop 8 reply ≡ b ++ client
   cut₂ = drop-at (r .cuid) (b ++ client) 8 (h .cuid)
 
-  pub framed-eq : shakeIn w c r a b ≡ shake c r a b
+  pub shaken-eq : shakeIn w c r a b
+      ≡ record {
+        challenged = given tt;
+        client = given client;
+        accepted = given tt;
+        server = given server;
+        first = given first;
+        confirmed = given tt;
+        controller = secured (session.c₂ c r a b h) first;
+        reader = secured (session.r₁ c r a b h) first;
+      }
   unfolding shakeIn
-  framed-eq =
+  shaken-eq =
       rw (
-        session.challenge-eq c r a b ends,
+        session.challenge-eq c r a b h,
         carried₁,
-        session.asked-eq c r a b ends,
+        session.asked-eq c r a b h,
         carried₂,
         cut₁,
         cut₂,
         take-at b client 8 (hb .size),
         drop-at b client 8 (hb .size),
-        session.ccrypt-eq c r a b ends,
-        session.server-eq c r a b ends,
+        session.ccrypt-eq c r a b h,
+        session.server-eq c r a b h,
         carried₃,
-        session.scrypt-eq c r a b ends,
+        session.scrypt-eq c r a b h,
         carried₄,
-        session.confirm-eq c r a b ends,
+        session.confirm-eq c r a b h,
       )
-      (sym (session.shake-eq c r a b ends))
 
   -- ready both ways
   pub shaken : Ready (shakeIn w c r a b .controller) (shakeIn w c r a b .reader)
-  shaken = rw framed-eq (session.ready c r a b ends (nonce a ha) (nonce b hb))
+  shaken = rw shaken-eq (session.ready c r a b h ha hb)
 
   pub shaken-back : Ready (shakeIn w c r a b .reader) (shakeIn w c r a b .controller)
-  shaken-back = rw framed-eq (session.ready-back c r a b ends (nonce a ha) (nonce b hb))
+  shaken-back = rw shaken-eq (session.ready-back c r a b h ha hb)
 
   pub succeeded : Succeeded (shakeIn w c r a b)
   succeeded =
-      let e = sym (framed-eq ∙ session.shake-eq c r a b ends) in
+      let e = sym shaken-eq in
       record {
         challenged = subst (λ (x : Hand). Given (x .challenged)) e tt;
         client = subst (λ (x : Hand). Given (x .client)) e tt;

@@ -2,7 +2,7 @@
 -- Assumes nothing.
 use mathlib.Core.Bool.{Bool, true, false}
 use mathlib.Core.List.{List, [], _∷_, _++_}
-use mathlib.Core.Path.{_≡_, refl, sym, ap₂}
+use mathlib.Core.Path.{_≡_, refl, sym, ap, ap₂}
 use Prim.Native.Nat.{ℕ, _+_, _-_}
 use native.Mathlib.Omega.{arith}
 use lib.ListN.{length, take}
@@ -12,18 +12,18 @@ use Rattle.laws.specs.Over.{write}
 use Rattle.laws.proofs.Overwrite.{take-write}
 use Rattle.secure_keys.specs.declared.crypto.SessionKeys.{SessionKeys}
 use Rattle.secure_keys.proofs.KeysLaws.{GoodKeys}
-use Rattle.secure_session.specs.Session.{sendFrom, recvFrom, sent, received}
+use Rattle.secure_session.specs.Session.{isSecure, sendFrom, recvFrom, sent, received}
 use Rattle.secure_session.specs.declared.session.End.{End}
 use Rattle.secure_session.specs.declared.session.End.the-variants.{Controller, Reader}
 use Rattle.secure_session.specs.declared.session.Session.{Session}
 use Rattle.secure_session.proofs.Shaken.{Ready}
 use Rattle.secure_seal.specs.Seal.{Asked, dataLen, totalOf, SealedFrame, sealedFrame, afterSeal, sealOf}
-use Rattle.secure_seal.proofs.SealLaws.{Sealable, stepsFor, headWith, full-block, frame-length, frame-steps, head-alone, plain-alone}
+use Rattle.secure_seal.proofs.SealLaws.{Sealable, seals, stepsFor, headWith, full-block, frame-length, frame-steps, head-alone, plain-alone}
 use Rattle.secure_unseal.specs.Unseal.{unsealRun, afterUnseal, unsealOf}
 use Rattle.channel.specs.Carried.{onLine}
 use Rattle.channel.specs.Talk.{Send, directionOf, askedIn, Event, showing, transfer, turn, talk}
 use Rattle.channel.specs.Demand.{Within, Fits, AllFit, encryptedLen, openBytes, Each}
-use Rattle.channel.proofs.Delivered.{seal-run-eq, placeFor, workFor, unseal-run-eq, shown-eq}
+use Rattle.channel.proofs.Delivered.{placeFor, workFor, unseal-run-eq, shown-eq}
 use Rattle.channel.proofs.Ends.{ready-same, ready-other}
 
 sealable : (q : Asked) → Within q → Sealable q
@@ -70,8 +70,8 @@ module _ (a b : Session) (s : Send) (r : Ready a b) (g : Fits s) where
   -- the sender's call
   sealed-eq : sealOf a (askedIn s) (s .out)
       ≡ record { answer = given (totalOf (askedIn s)); session = sent a (made .full); out = write (s .out) 0 (made .bytes); steps = made .steps }
-  unfolding sealOf afterSeal
-  sealed-eq = rw (seal-run-eq (a .state) (a .keys) (sendFrom a) (askedIn s) (s .out) (r .sender) fine (g .room))
+  unfolding sealOf afterSeal isSecure
+  sealed-eq = rw (seals (a .state) (a .keys) (sendFrom a) (askedIn s) (s .out) (ap isSecure (r .sender)) fine (g .room))
 
   -- the peer's
   opened-eq : unsealOf b (made .bytes) (s .work)

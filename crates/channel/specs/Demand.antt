@@ -7,10 +7,11 @@ use mathlib.Core.Path.{_≡_}
 use lib.ListN.{length, take}
 use Rattle.laws.specs.Answer.{Answer.given}
 use Rattle.laws.specs.Bytes.{Bytes}
-use Rattle.secure_session.specs.Hand.{Hand}
+use Rattle.secure_keys.specs.Keys.{Random}
+use Rattle.secure_session.specs.Apart.{Apart}
 use Rattle.secure_session.specs.declared.session.Session.{Session}
 use Rattle.secure_seal.specs.Seal.{Asked, dataLen, totalOf}
-use Rattle.channel.specs.Handshake.{Wires, WiresFit, Apart, Random, shakeIn, Succeeded}
+use Rattle.channel.specs.Handshake.{Hand, Wires, WiresFit, shakeIn, Succeeded}
 use Rattle.channel.specs.Talk.{Send, askedIn, Event, talk}
 
 -- ---- a conversation: the handshake, then any list of sealed frames

@@ -3,16 +3,23 @@
 use Prim.Native.Nat.{ℕ}
 use mathlib.Core.List.{List, _++_}
 use mathlib.Core.Path.{_≡_}
-use lib.ListN.{length, take, drop}
+use lib.ListN.{take, drop}
 use Rattle.laws.specs.Answer.{Answer, Answer.given, Answer.refused}
-use Rattle.laws.specs.Bytes.{Bytes}
-use Rattle.laws.specs.Blocks.{Block}
-use Rattle.secure_session.specs.Hand.{Hand}
 use Rattle.secure_session.specs.Handshake.{challengeOf, receiveCcryptOf, serverCryptogramOf, confirmOf, receiveChallengeOf, receiveScryptOf, blockBeside}
-use Rattle.secure_session.specs.declared.session.End.the-variants.{Controller, Reader}
-use Rattle.secure_session.specs.declared.session.State.the-variants.{Disconnected, Secure}
+use Rattle.secure_session.specs.declared.session.State.the-variants.{Secure}
 use Rattle.secure_session.specs.declared.session.Session.{Session}
 use Rattle.channel.specs.Carried.{Wire, WireFits, carried}
+
+-- what each call answers, and the ends after it
+pub record Hand : Type 0 where
+  pub challenged : Answer (Unit {0})
+  pub client : Answer (List ℕ)
+  pub accepted : Answer (Unit {0})
+  pub server : Answer (List ℕ)
+  pub first : Answer (List ℕ)
+  pub confirmed : Answer (Unit {0})
+  pub controller : Session
+  pub reader : Session
 
 -- how the four messages are framed
 pub record Wires : Type 0 where
@@ -43,21 +50,6 @@ shakeIn w c r a b =
     }
 
 -- ---- what is asked of it
-
--- a controller's end and a reader's, both Disconnected, with one key; their other fields are any
-pub record Apart (c r : Session) : Type 0 where
-  pub controller : c .end ≡ Controller
-  pub reader : r .end ≡ Reader
-  pub controllerState : c .state ≡ Disconnected
-  pub readerState : r .state ≡ Disconnected
-  pub oneKey : c .scbk ≡ r .scbk
-  pub key : Block (c .scbk)
-  pub cuid : length (r .cuid) ≡ 8
-
--- a random number: eight bytes
-pub record Random (a : List ℕ) : Type 0 where
-  pub size : length a ≡ 8
-  pub bytes : Bytes a
 
 -- the four frames are within limits and buffers
 pub record WiresFit (w : Wires) : Type 0 where

@@ -21,7 +21,7 @@ use Rattle.packet_parse.specs.Trailer.{crcGot, sumGot, trailerOf}
 use Rattle.packet_parse.specs.Frame.{Fields, BlockAt, BlockAt.noBlock, BlockAt.blockAt, MacAt, macAt, lenOf, headOf, fieldsOf, partsOf, frameOf, parseOf}
 use Rattle.packet_build.specs.Build as made
 use Rattle.packet_build.specs.Build.{Parts, Block, Block.scb, blockBytes, tailBytes, bytesOf, signedBytes, bodyBytes, buildOf}
-use Rattle.packet_build.proofs.Sizes.{Fine, Whole, whole, bytesN-is, body-length, bytes-length, tail-length}
+use Rattle.packet_build.proofs.Sizes.{Fine, Whole, whole, whole-length, body-length, bytes-length, tail-length}
 
 -- ---- the control byte
 
@@ -205,7 +205,7 @@ pub built-reads : (p : Parts) (have : ℕ) (b rest : List ℕ) → Typed (p .blo
 built-reads p have b rest ty e =
     let w = holds-given (Whole p have) (buildOf p have) b (whole p have) e in
     let f = w .tests in
-    let l : length (bytesOf p (w .n)) ≡ w .n = omega (arith, bytes-length p (w .n), bytesN-is (p .block), f .total) in
+    let l = whole-length p have (w .n) f in
     let lb : w .n ≡ length b = sym l ∙ ap length (sym (w .bytes)) in
     ap (λ (z : List ℕ). parseOf (z ++ rest)) (w .bytes) ∙ frame-of p (w .n) rest l (f .sqn)
     ∙ places (p .addr) (p .ctrl) (p .block) (p .code) (p .«data») (p .mac) (w .n) have ty l f ∙ ap (λ (n : ℕ). given (placesOf p n)) lb

@@ -6,7 +6,7 @@ use mathlib.Core.Bool.{Bool, true, false, not, cond}
 use Prim.Native.Nat.{ℕ, _-_, suc, _+_, _*_, _/_, _%_, _≤_, _<_}
 use native.Mathlib.Numerals.{add-one}
 use native.Mathlib.Omega.{arith}
-use borrow.Author.Tests.{le-ltb, eq-eqb, ltb-false, leb-false, eqb-true, eqb-false, not-false}
+use borrow.Author.Tests.{ltb-false, leb-false, eqb-true, eqb-false, not-false}
 use lib.Dec.{leb, eqb}
 use lib.ListN.{length, getD, take, drop, length-drop, take-append-drop, drop-of-length-le}
 use lib.Seq.{length-take-le, take-suc, take-add, drop-cons, getD-drop, getD-take}
@@ -22,8 +22,8 @@ use Rattle.laws.proofs.Answers.{Holds, holds-refuse, holds-choose, holds-then, 
 use Rattle.packet_parse.specs.Trailer.{crcGot, sumGot, trailerOf}
 use Rattle.packet_parse.specs.Frame.{Head, Fields, BlockAt, BlockAt.noBlock, BlockAt.blockAt, MacAt, MacAt.noMac, MacAt.macFrom, macAt, lenOf, headOf, fieldsOf, partsOf, frameOf, parseOf}
 use Rattle.packet_build.specs.Build as made
-use Rattle.packet_build.specs.Build.{Parts, Block, Block.scb, blockBytes, headBytes, tailBytes, bytesOf, signedBytes, bodyBytes, buildOf, testOf, differ, totalN}
-use Rattle.packet_build.proofs.Sizes.{Fine, bytesN-is}
+use Rattle.packet_build.specs.Build.{Parts, Block, Block.scb, blockBytes, headBytes, tailBytes, bytesOf, signedBytes, bodyBytes, buildOf, totalN}
+use Rattle.packet_build.proofs.Sizes.{passes, bytesN-is}
 
 -- ---- the control byte
 
@@ -172,18 +172,6 @@ signed-there f a c k at mac x p h =
     ∙ ap (λ (z : List ℕ). z ++ take n (drop (at + 1) f) ++ m) (sym (take-suc f at 0 (omega arith)) ∙ ap (λ (j : ℕ). take j f) (sym (add-one at)))
     ∙ ap (λ (z : List ℕ). z ++ m) (sym (take-add (at + 1) n f)) ∙ mac-there f at mac (c .1) h
 
--- the tests pass where their facts hold
-same-off : (a b : Bool) → a ≡ b → differ a b ≡ false
-same-off true b e = rw (← e)
-same-off false b e = rw (← e)
-
-passes : (c : Control) (there d : Bool) (mac block dat have n : ℕ) → Fine c there d mac block dat have n → testOf c there d mac block dat have ≡ given n
-unfolding testOf refuseIf
-passes c there d mac block dat have n f =
-    let h₅ : totalN (c .1) there mac block dat ≤ 65535 = omega (arith, f .total, f .most) in
-    let h₆ : totalN (c .1) there mac block dat ≤ have = omega (arith, f .total, f .room) in
-    rw (le-ltb _ _ (f .sqn), same-off _ _ (f .flag), eq-eqb _ _ (f .macs), le-ltb _ _ (f .small), le-ltb _ _ h₅, le-ltb _ _ h₆) (ap given (sym (f .total)))
-
 -- F's parts make f again
 abbrev Again : List ℕ → Fields → Type 0
 Again f F = (F .len ≡ length f) × ((have : ℕ) → length f ≤ have → buildOf (partsFrom f F) have ≡ given f)
@@ -204,10 +192,6 @@ again f a c k at mac x h p l t have room =
     (record { sqn = h .sqn; flag = p .flag; macs = lm ∙ ap macLen (sym (p .due)); total = total; most = most; room = room; small = p .small }) in
     let s = signed-there f a c k at mac x p l in
     rw e (ap given (ap (λ (z : List ℕ). z ++ tailBytes (c .1) z) s ∙ ap (λ (z : List ℕ). take (length f - trailerLen (c .1)) f ++ z) t ∙ take-append-drop (length f - trailerLen (c .1)) f))
-
-one-two : (t : Bool) → (1 ≤ trailerLen t) × (trailerLen t ≤ 2)
-one-two true = omega arith
-one-two false = omega arith
 
 parts-there : (f : List ℕ) (a : ℕ) (c : Control) (k : BlockAt) (at : ℕ) (mac : Bool) → Headed f a c → Placed f a c k at mac → Holds (Again f) (partsOf f a c k at mac)
 unfolding partsOf

@@ -1,17 +1,17 @@
 -- What the tests leave of a frame that was built, and how long its parts are.
 -- Assumes nothing.
-use mathlib.Core.Path.{_≡_, refl, sym, _∙_}
+use mathlib.Core.Path.{_≡_, refl, sym, ap, _∙_}
 use mathlib.Core.Bool.{Bool, true, false, cond}
 use mathlib.Core.List.{List}
 use Prim.Native.Nat.{ℕ, _+_, _≤_}
 use native.Mathlib.Omega.{arith}
-use borrow.Author.Tests.{ltb-false, eqb-true, not-false}
+use borrow.Author.Tests.{le-ltb, eq-eqb, ltb-false, eqb-true, not-false}
 use lib.ListN.{length, length-append}
-use Rattle.laws.specs.Answer.{Answer.given}
+use Rattle.laws.specs.Answer.{Answer.given, refuseIf}
 use Rattle.laws.proofs.Answers.{Holds, holds-refuse, holds-then, holds-given}
 use Rattle.packet_head.specs.Header.{Control}
 use Rattle.packet_head.specs.Trailer.{trailerLen, macLen}
-use Rattle.packet_build.specs.Build.{Block, Block.noBlock, Block.scb, Parts, present, due, blockN, blockBytes, bodyBytes, signedBytes, tailBytes, bytesOf, differ, testOf, totalN, buildOf, bodyOf}
+use Rattle.packet_build.specs.Build.{Block, Block.noBlock, Block.scb, Parts, present, due, blockN, blockBytes, bodyBytes, signedBytes, tailBytes, bytesOf, differ, testOf, totalN, buildOf}
 use Rattle.packet_build.specs.Tested.{partsTest}
 
 -- ---- lengths
@@ -71,6 +71,18 @@ fine c there d mac block dat have =
       small = ltb-false _ _ s;
     }))))))
 
+-- and the other way round: the tests pass where these hold
+same-off : (a b : Bool) → a ≡ b → differ a b ≡ false
+same-off true b e = rw (← e)
+same-off false b e = rw (← e)
+
+pub passes : (c : Control) (there d : Bool) (mac block dat have n : ℕ) → Fine c there d mac block dat have n → testOf c there d mac block dat have ≡ given n
+unfolding testOf refuseIf
+passes c there d mac block dat have n f =
+    let h₅ : totalN (c .1) there mac block dat ≤ 65535 = omega (arith, f .total, f .most) in
+    let h₆ : totalN (c .1) there mac block dat ≤ have = omega (arith, f .total, f .room) in
+    rw (le-ltb _ _ (f .sqn), same-off _ _ (f .flag), eq-eqb _ _ (f .macs), le-ltb _ _ (f .small), le-ltb _ _ h₅, le-ltb _ _ h₆) (ap given (sym (f .total)))
+
 -- the same of parts that are to have `mac` bytes of MAC
 abbrev pub FineParts : Parts → ℕ → ℕ → ℕ → Type 0
 FineParts p mac have n = Fine (p .ctrl) (present (p .block)) (due (p .block)) mac (blockN (p .block)) (length (p .«data»)) have n
@@ -93,18 +105,3 @@ whole p have = holds-then _ _ _ (λ n e. record { n = n; bytes = refl; tests = f
 -- LEN counts all
 pub whole-length : (p : Parts) (have n : ℕ) → FineParts p (length (p .mac)) have n → length (bytesOf p n) ≡ n
 whole-length p have n f = omega (arith, f .total, bytes-length p n, bytesN-is (p .block))
-
--- of what the first of two calls wrote
-pub record Body (p : Parts) (have : ℕ) (b : List ℕ) : Type 0 where
-  pub n : ℕ
-  pub bytes : b ≡ bodyBytes (p .addr) (p .ctrl) (p .block) (p .code) (p .«data») n
-  pub tests : FineParts p 4 have n
-
-pub body : (p : Parts) (have : ℕ) → Holds (Body p have) (bodyOf p have)
-unfolding bodyOf
-body p have = holds-then _ _ _ (λ n e. record { n = n; bytes = refl; tests = fine-parts p 4 have n e })
-
--- four bytes of MAC and the trailer are still to come
-pub body-left : (p : Parts) (have n : ℕ) → FineParts p 4 have n
-    → length (bodyBytes (p .addr) (p .ctrl) (p .block) (p .code) (p .«data») n) + 4 + trailerLen (p .ctrl .1) ≡ n
-body-left p have n f = omega (arith, f .total, body-length (p .addr) (p .ctrl) (p .block) (p .code) (p .«data») n, bytesN-is (p .block))

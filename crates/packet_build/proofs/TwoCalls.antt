@@ -29,13 +29,3 @@ unfolding buildOf bodyOf
 two-calls p have m h =
     ap (λ (k : ℕ). andThen (partsTest (p .ctrl) (p .block) k (length (p .«data»)) have) (λ n. given (bytesOf (withMac p m) n))) h
     ∙ then-completed p m (partsTest (p .ctrl) (p .block) 4 (length (p .«data»)) have)
-
--- the second call writes what the first one wrote, the MAC, and the trailer of both
-pub two-calls-given : (p : Parts) (have : ℕ) (b m : List ℕ) → length m ≡ 4 → bodyOf p have ≡ given b
-    → buildOf (withMac p m) have ≡ given (b ++ m ++ tailBytes (p .ctrl .1) (b ++ m))
-two-calls-given p have b m h e = two-calls p have m h ∙ ap (completed p m) e
-
--- and is refused where the first one was
-pub two-calls-refused : (p : Parts) (have : ℕ) (m : List ℕ) (n : ℕ) (vs : List ℕ) → length m ≡ 4 → bodyOf p have ≡ refused n vs
-    → buildOf (withMac p m) have ≡ refused n vs
-two-calls-refused p have m n vs h e = two-calls p have m h ∙ ap (completed p m) e

@@ -12,7 +12,6 @@ use lib.ListN.{length, getD, take, drop, take-append-drop, length-replicate}
 use lib.Seq.{take-suc}
 use Rattle.laws.specs.Bytes.{xorl, zeros}
 use Rattle.laws.proofs.Xor.{bit-ind, xor-assoc}
-use Rattle.laws.proofs.Lists.{drop-next}
 use Rattle.packet_sums.specs.Crc.{polynomial, start, reduce, crcBit, crcBits, crcByte, crcFrom, crcOf}
 use Rattle.packet_sums.proofs.Linear.{Linear, linear-same, linear-after, xor-swap, xor-shl}
 
@@ -30,9 +29,6 @@ pub crc-append : (c : ℕ) (a b : List ℕ) → crcFrom c (a ++ b) ≡ crcFrom (
 unfolding crcFrom
 crc-append c [] b = refl
 crc-append c (x ∷ a) b = crc-append (crcByte c x) a b
-
-pub crc-drop : (s : List ℕ) (c i : ℕ) → i < length s → crcFrom c (drop i s) ≡ crcFrom (crcByte c (getD s i 0)) (drop (i + 1) s)
-crc-drop s c i h = ap (crcFrom c) (drop-next s i h) ∙ crc-cons c (getD s i 0) (drop (i + 1) s)
 
 pub crc-take : (s : List ℕ) (c k : ℕ) → k < length s → crcFrom c (take (suc k) s) ≡ crcByte (crcFrom c (take k s)) (getD s k 0)
 crc-take s c k h =

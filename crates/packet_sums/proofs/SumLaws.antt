@@ -22,16 +22,8 @@ unfolding sumOf
 sum-append [] b = sym (zero-add (sumOf b))
 sum-append (x ∷ a) b = ap (λ (n : ℕ). x + n) (sum-append a b) ∙ omega arith
 
--- modulo 256, as the checksum takes it
-pub sum-append-mod : (a b : List ℕ) → sumOf (a ++ b) % 256 ≡ (sumOf a % 256 + sumOf b % 256) % 256
-sum-append-mod a b = omega (arith, sum-append a b)
-
 pub sum-drop : (s : List ℕ) (i : ℕ) → i < length s → sumOf (drop i s) ≡ getD s i 0 + sumOf (drop (i + 1) s)
 sum-drop s i h = ap sumOf (drop-next s i h) ∙ sum-cons (getD s i 0) (drop (i + 1) s)
-
-pub checksum-lt : (s : List ℕ) → checksumOf s < 256
-unfolding checksumOf
-checksum-lt s = omega arith
 
 -- the checksum is what makes the sum of all 0 modulo 256
 pub checksum-closes : (s : List ℕ) → (sumOf s + checksumOf s) % 256 ≡ 0

@@ -6,17 +6,17 @@ use Prim.Native.Nat.{ℕ, _+_, _-_, _*_, _/_, _%_, _≤_, _<_}
 use native.Mathlib.Omega.{arith}
 use borrow.Author.Tests.{eq-eqb, ne-eqb, lt-ltb, le-ltb}
 use lib.ListN.{length, take, drop, set, length-set, length-replicate}
-use lib.Seq.{take-append-seam, drop-at, set-append-left}
+use lib.Seq.{drop-at, set-append-left}
 use Rattle.laws.specs.Answer.{Answer, Answer.given, Answer.refused}
 use Rattle.laws.specs.Bytes.{Bytes, zeros}
 use Rattle.laws.specs.Blocks.{Block, blocks, flat}
 use Rattle.laws.specs.Over.{write}
 use Rattle.laws.proofs.Overwrite.{take-write}
-use Rattle.secure_cipher.specs.Pad.{tail80, padData, unpad}
+use Rattle.secure_cipher.specs.Pad.{padData, unpad}
 use Rattle.secure_cipher.specs.Cbc.{Done, Run, Opening, decRun, hide, reveal, encryptOf, decryptOf, openedInto, wiped, laid}
 use Rattle.secure_cipher.specs.Parts.{badPadding, Deciphered}
 use Rattle.secure_cipher.proofs.CbcLaws.{length-hide, reveal-hide}
-use Rattle.secure_cipher.proofs.PadLaws.{unpad-refused, unpad-less, unpad-clear}
+use Rattle.secure_cipher.proofs.PadLaws.{padData-front, unpad-refused, unpad-less, unpad-clear}
 
 abbrev done : Answer ℕ → List ℕ → ℕ → Done
 done a o n = record { answer = a; out = o; steps = n }
@@ -108,10 +108,6 @@ read-text {r} {n} {before} {after} d = ap (take n) (d .here) ∙ take-write befo
 
 -- ---- read back: what was enciphered is deciphered to the payload, with zeros behind it
 
-front : (x : List ℕ) → take (length x) (padData x) ≡ x
-unfolding padData
-front x = take-append-seam x (tail80 (length x))
-
 module _ (k v x o : List ℕ) (hk : Block k) (hv : Block v) (hx : Bytes x) where
   pub decrypt-hide : (length x / 16 + 1) * 16 ≤ length o
       → decryptOf k v (hide k v x .bytes) o ≡ record { answer = given (length x); out = write o 0 (x ++ zeros ((length x / 16 + 1) * 16 - length x)); steps = length x / 16 + 1 }
@@ -119,4 +115,4 @@ module _ (k v x o : List ℕ) (hk : Block k) (hv : Block v) (hx : Bytes x) where
   decrypt-hide h =
       let n = length-hide k v x hk hv hx in
       decrypt-from k v (hide k v x .bytes) o _ (omega arith) (reveal-hide k v x hk hv hx)
-      ∙ ap₂ (λ (y : List ℕ) (m : ℕ). done (given (length x)) (write o 0 (y ++ zeros (m - length x))) (length x / 16 + 1)) (front x) n
+      ∙ ap₂ (λ (y : List ℕ) (m : ℕ). done (given (length x)) (write o 0 (y ++ zeros (m - length x))) (length x / 16 + 1)) (padData-front x) n

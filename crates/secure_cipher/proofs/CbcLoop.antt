@@ -8,7 +8,7 @@ use lib.ListN.{length, take, drop, length-append}
 use Rattle.laws.specs.Bytes.{xorl}
 use Rattle.laws.specs.Blocks.{blocks, flat}
 use Rattle.laws.specs.Over.{write}
-use Rattle.laws.proofs.Overwrite.{write-nil, write-write, length-write}
+use Rattle.laws.proofs.Overwrite.{write-nil, write-write}
 use Rattle.aes.specs.Cipher.{E, D}
 use Rattle.secure_cipher.specs.Pad.{padData}
 use Rattle.secure_cipher.specs.Cbc.{encRun, decRun, hide}
@@ -38,9 +38,6 @@ laid-more {o₀} {at} {rest} {target} {o} c rest₂ o₂ at₂ n e h r w p = rec
 }
 
 module _ {o₀ : List ℕ} {at : ℕ} {rest target o : List ℕ} (p : Laid o₀ at rest target o) where
-  pub laid-length : length o ≡ length o₀
-  laid-length = ap length (p .here) ∙ length-write o₀ 0 (p .done) (omega (arith, p .size, p .fits))
-
   pub laid-all : rest ≡ [] → o ≡ write o₀ 0 target
   laid-all e = p .here ∙ ap (write o₀ 0) (sym (append-nil (p .done)) ∙ ap (λ (x : List ℕ). p .done ++ x) (sym e) ∙ p .all)
 

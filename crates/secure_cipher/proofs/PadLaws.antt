@@ -10,7 +10,7 @@ use native.Mathlib.Numerals.{add-one}
 use borrow.Author.Tests.{eq-eqb, ne-eqb, eqb-true, eqb-false, lt-ltb, le-ltb}
 use lib.Dec.{eqb, lit<}
 use lib.ListN.{length, take, drop, getD, replicate, set, length-append, length-drop, length-replicate, getD-replicate}
-use lib.Seq.{getD-append-seam, getD-append-add, take-append-le, drop-append-le, take-all, take-suc, take-length, set-at, set-split, append-snoc, length-take-le}
+use lib.Seq.{take-append-seam, getD-append-seam, getD-append-add, take-append-le, drop-append-le, take-all, take-suc, take-length, set-at, set-split, append-snoc, length-take-le}
 use Rattle.laws.specs.Answer.{Answer.given, Answer.refused}
 use Rattle.laws.specs.Bytes.{Bytes, zeros}
 use Rattle.laws.specs.Over.{write}
@@ -28,6 +28,10 @@ length-tail80 n = omega (arith, length-replicate {A = ℕ} (15 - n % 16) 0)
 pub length-padData : (l : List ℕ) → length (padData l) ≡ (length l / 16 + 1) * 16
 unfolding padData
 length-padData l = omega (arith, length-append l (tail80 (length l)), length-tail80 (length l))
+
+pub padData-front : (l : List ℕ) → take (length l) (padData l) ≡ l
+unfolding padData
+padData-front l = take-append-seam l (tail80 (length l))
 
 pub bytes-padData : (l : List ℕ) → Bytes l → Bytes (padData l)
 unfolding padData tail80

@@ -37,9 +37,6 @@ unfolding eql
 eql-cons x y a b = refl
 
 module _ (a b : List ℕ) where
-  pub left-begin : Left a b 0 0
-  left-begin = refl
-
   pub left-step : (d i : ℕ) → i < length a → i < length b → Left a b d i → Left a b (bitOr d (bitXor (getD a i 0) (getD b i 0))) (i + 1)
   left-step d i ha hb h =
       let x = getD a i 0 in

@@ -1,22 +1,16 @@
 -- The derived keys, the cryptograms and the first chain value are blocks.
 -- Assumes nothing.
--- a random number of the handshake: eight bytes
 use mathlib.Core.List.{List, _∷_, _++_}
-use mathlib.Core.Path.{_≡_}
 use Prim.Native.Nat.{ℕ, _<_}
 use native.Mathlib.Omega.{arith}
-use lib.ListN.{length, take, length-append, length-take}
+use lib.ListN.{take, length-append, length-take}
 use Rattle.laws.specs.Blocks.{Block}
-use Rattle.laws.specs.Bytes.{Bytes, zeros}
+use Rattle.laws.specs.Bytes.{zeros}
 use Rattle.laws.proofs.ByteLists.{bytes-cons, bytes-append, bytes-take, bytes-zeros}
 use Rattle.aes.specs.Cipher.{E}
 use Rattle.aes.proofs.Laws.{E-block}
-use Rattle.secure_keys.specs.Keys.{template, derive, clientOf, serverOf, firstOf}
+use Rattle.secure_keys.specs.Keys.{Random, template, derive, clientOf, serverOf, firstOf}
 use Rattle.secure_keys.specs.declared.crypto.SessionKeys.{SessionKeys}
-
-pub record Nonce (a : List ℕ) : Type 0 where
-  pub size : length a ≡ 8
-  pub bytes : Bytes a
 
 -- three keys that are blocks
 pub record GoodKeys (k : SessionKeys) : Type 0 where
@@ -24,14 +18,14 @@ pub record GoodKeys (k : SessionKeys) : Type 0 where
   pub mac₁ : Block (k .«s_mac1»)
   pub mac₂ : Block (k .«s_mac2»)
 
-template-block : (t : ℕ) (a : List ℕ) → t < 256 → Nonce a → Block (template t a)
+template-block : (t : ℕ) (a : List ℕ) → t < 256 → Random a → Block (template t a)
 template-block t a h n = record {
   size = simp (length-append, length-take) (omega (arith, n .size));
   bytes = bytes-cons 1 (t ∷ (take 6 a ++ zeros 8)) (omega arith)
       (bytes-cons t (take 6 a ++ zeros 8) h (bytes-append (take 6 a) (zeros 8) (bytes-take 6 a (n .bytes)) (bytes-zeros 8)));
 }
 
-pub derive-good : (k a : List ℕ) → Block k → Nonce a → GoodKeys (derive k a)
+pub derive-good : (k a : List ℕ) → Block k → Random a → GoodKeys (derive k a)
 unfolding derive
 derive-good k a hk ha = record {
   enc = E-block k (template 0x82 a) hk (template-block 0x82 a (omega arith) ha);
@@ -39,14 +33,14 @@ derive-good k a hk ha = record {
   mac₂ = E-block k (template 0x02 a) hk (template-block 0x02 a (omega arith) ha);
 }
 
-pair-block : (x y : List ℕ) → Nonce x → Nonce y → Block (x ++ y)
+pair-block : (x y : List ℕ) → Random x → Random y → Block (x ++ y)
 pair-block x y hx hy = record { size = omega (arith, length-append x y, hx .size, hy .size); bytes = bytes-append x y (hx .bytes) (hy .bytes) }
 
-pub client-block : (k a b : List ℕ) → Block k → Nonce a → Nonce b → Block (clientOf k a b)
+pub client-block : (k a b : List ℕ) → Block k → Random a → Random b → Block (clientOf k a b)
 unfolding clientOf
 client-block k a b hk ha hb = E-block k (a ++ b) hk (pair-block a b ha hb)
 
-pub server-block : (k a b : List ℕ) → Block k → Nonce a → Nonce b → Block (serverOf k a b)
+pub server-block : (k a b : List ℕ) → Block k → Random a → Random b → Block (serverOf k a b)
 unfolding serverOf
 server-block k a b hk ha hb = E-block k (b ++ a) hk (pair-block b a hb ha)
 

@@ -2,10 +2,16 @@
 -- Assumes nothing.
 use Prim.Native.Nat.{ℕ}
 use mathlib.Core.List.{List, _∷_, _++_}
-use lib.ListN.{take}
-use Rattle.laws.specs.Bytes.{zeros, compl}
+use mathlib.Core.Path.{_≡_}
+use lib.ListN.{length, take}
+use Rattle.laws.specs.Bytes.{Bytes, zeros, compl}
 use Rattle.aes.specs.Cipher.{E}
 use Rattle.secure_keys.specs.declared.crypto.SessionKeys.{SessionKeys}
+
+-- a random number of the handshake, RND.A or RND.B: eight bytes
+pub record Random (a : List ℕ) : Type 0 where
+  pub size : length a ≡ 8
+  pub bytes : Bytes a
 
 -- 01, a tag, the first six bytes of RND.A, eight zeros
 abbrev pub template : ℕ → List ℕ → List ℕ

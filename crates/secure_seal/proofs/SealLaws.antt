@@ -3,6 +3,7 @@
 use mathlib.Core.Path.{_≡_, refl, sym, ap, _∙_}
 use mathlib.Core.Bool.{Bool, true, false}
 use mathlib.Core.List.{List, [], _∷_, _++_, append-assoc, append-nil}
+use mathlib.Core.Option.{some}
 use Prim.Native.Nat.{ℕ, zero, suc, _+_, _*_, _/_, _%_, _≤_, _<_}
 use native.Mathlib.Omega.{arith}
 use borrow.Author.Tests.{le-ltb}
@@ -11,13 +12,14 @@ use lib.Seq.{take-at, length-take-le}
 use Rattle.laws.specs.Answer.{Answer.given, refuseIf}
 use Rattle.laws.specs.Bytes.{Bytes, compl}
 use Rattle.laws.specs.Blocks.{Block}
+use Rattle.laws.specs.Over.{write}
 use Rattle.laws.proofs.ByteLists.{bytes-append, bytes-nil, bytes-compl, length-compl}
 use Rattle.laws.proofs.Lists.{middle}
 use Rattle.packet_head.specs.Block.{hasMac, isEncrypted, scsOf}
 use Rattle.packet_head.specs.Trailer.{Tail}
 use Rattle.packet_parse.specs.Frame.{Fields, BlockAt.blockAt, MacAt.macFrom, parseOf}
 use Rattle.packet_build.specs.Build.{bodyBytes, bytesOf, tailBytes, buildOf, testOf}
-use Rattle.packet_build.proofs.Sizes.{bytes-length}
+use Rattle.packet_build.proofs.Sizes.{passes, bytes-length}
 use Rattle.packet_build.proofs.Frames.{build-given}
 use Rattle.packet.proofs.Built.{tailOf}
 use Rattle.packet.proofs.ReadBack.{built-reads-back}
@@ -27,7 +29,9 @@ use Rattle.secure_cipher.specs.Cbc.{hide}
 use Rattle.secure_cipher.proofs.PadLaws.{length-padData}
 use Rattle.secure_cipher.proofs.CbcLaws.{length-hide, bytes-hide, steps-hide}
 use Rattle.secure_cipher.proofs.MacLaws.{mac-block, mac-steps}
-use Rattle.secure_seal.specs.Seal.{typeFor, dataLen, dataOf, Asked, totalOf, partsWith, bodyWith, sealedFrame}
+use Rattle.secure_session.specs.Session.{isSecure}
+use Rattle.secure_session.specs.declared.session.State.{State}
+use Rattle.secure_seal.specs.Seal.{typeFor, dataLen, dataOf, Asked, totalOf, partsWith, bodyWith, sealedFrame, sealRun}
 use Rattle.secure_seal.specs.declared.frame.Direction.{Direction}
 use Rattle.secure_seal.specs.declared.frame.Direction.the-variants.{AcuToPd, PdToAcu}
 
@@ -153,10 +157,9 @@ fieldsWith q t =
     }
 
 tests-pass : (sqn n have : ℕ) → sqn ≤ 3 → 14 + n ≤ 65535 → 14 + n ≤ have → testOf (sqn, true, true) true true 4 0 n have ≡ given (14 + n)
-unfolding testOf refuseIf
 tests-pass sqn n have h m r =
-    let e : 8 + n + 4 + 2 ≡ 14 + n = omega arith in
-    rw (e, le-ltb 3 sqn h, le-ltb 65535 (14 + n) m, le-ltb have (14 + n) r)
+    passes (sqn, true, true) true true 4 0 n have (14 + n)
+    (record { sqn = h; flag = refl; macs = refl; total = omega arith; most = m; room = r; small = omega arith })
 
 -- its data, and the four bytes of its MAC
 abbrev pub dataIn : SessionKeys → List ℕ → Asked → List ℕ
@@ -258,3 +261,15 @@ module _ (k : SessionKeys) (v : List ℕ) (q : Asked) (hk : GoodKeys k) (hv : Bl
 
   pub plain-alone : q .encrypt ≡ false → take (8 + length (q .payload)) (sealedFrame k v q .bytes) ≡ headWith q ++ q .payload
   plain-alone e = rw append-nil at (plain-part [] e)
+
+-- ---- what is within limits and buffers is sealed
+pub seals : (t : State) (k : SessionKeys) (v : List ℕ) (q : Asked) (o : List ℕ) → isSecure t ≡ true → Sealable q → totalOf q ≤ length o
+    → sealRun t k v q o
+    ≡ record {
+      answer = given (totalOf q);
+      moved = some (sealedFrame k v q .full);
+      out = write o 0 (sealedFrame k v q .bytes);
+      steps = sealedFrame k v q .steps;
+    }
+unfolding sealRun
+seals t k v q o hs h ho = rw (hs, le-ltb 3 (q .sqn) (h .sqn), le-ltb 65535 (totalOf q) (h .total), le-ltb (length o) (totalOf q) ho)

@@ -1,10 +1,9 @@
 -- The laws of the chain's five names: what else is said of a session rests on these, and not on where the chain value is kept.
 -- Assumes nothing.
-use mathlib.Core.Bool.{true}
 use mathlib.Core.List.{List}
 use mathlib.Core.Path.{_≡_, refl}
 use Prim.Native.Nat.{ℕ}
-use Rattle.secure_session.specs.Session.{isSecure, sendFrom, recvFrom, sent, received, secured}
+use Rattle.secure_session.specs.Session.{sendFrom, recvFrom, sent, received, secured}
 use Rattle.secure_session.specs.declared.session.Session.{Session}
 use Rattle.secure_session.specs.declared.session.State.the-variants.{Secure}
 
@@ -17,10 +16,6 @@ module _ (s : Session) (m : List ℕ) where
   pub recv-sent : recvFrom (sent s m) ≡ m
   unfolding recvFrom sent
   recv-sent = refl
-
-  pub sent-end : sent s m .end ≡ s .end
-  unfolding sent
-  sent-end = refl
 
   pub sent-state : sent s m .state ≡ s .state
   unfolding sent
@@ -39,10 +34,6 @@ module _ (s : Session) (m : List ℕ) where
   unfolding recvFrom received
   recv-received = refl
 
-  pub received-end : received s m .end ≡ s .end
-  unfolding received
-  received-end = refl
-
   pub received-state : received s m .state ≡ s .state
   unfolding received
   received-state = refl
@@ -60,10 +51,6 @@ module _ (s : Session) (m : List ℕ) where
   unfolding recvFrom secured
   recv-secured = refl
 
-  pub secured-end : secured s m .end ≡ s .end
-  unfolding secured
-  secured-end = refl
-
   pub secured-state : secured s m .state ≡ Secure
   unfolding secured
   secured-state = refl
@@ -71,7 +58,3 @@ module _ (s : Session) (m : List ℕ) where
   pub secured-keys : secured s m .keys ≡ s .keys
   unfolding secured
   secured-keys = refl
-
-  pub secured-secure : isSecure (secured s m .state) ≡ true
-  unfolding secured isSecure
-  secured-secure = refl

@@ -1,4 +1,5 @@
--- Two ends, Disconnected, with one SCBK: a handshake whose messages all arrive succeeds, and leaves both ready to send to each other.
+-- Two ends, Disconnected, with one SCBK: where each message arrives, every call of the handshake succeeds, and both ends are then ready to
+-- send to each other.
 -- Assumes nothing.
 use mathlib.Core.Bool.{true}
 use mathlib.Core.List.{List}
@@ -8,10 +9,10 @@ use borrow.Author.Tests.{eq-eqb}
 use Rattle.laws.specs.Answer.{Answer.given}
 use Rattle.laws.specs.Blocks.{Block}
 use Rattle.laws.proofs.ByteLists.{eql-refl}
-use Rattle.secure_keys.specs.Keys.{derive, clientOf, serverOf, firstOf}
+use Rattle.secure_keys.specs.Keys.{Random, derive, clientOf, serverOf, firstOf}
 use Rattle.secure_keys.specs.declared.crypto.SessionKeys.{SessionKeys}
-use Rattle.secure_keys.proofs.KeysLaws.{Nonce, GoodKeys, derive-good, server-block, first-block}
-use Rattle.secure_session.specs.Hand.{shake}
+use Rattle.secure_keys.proofs.KeysLaws.{GoodKeys, derive-good, server-block, first-block}
+use Rattle.secure_session.specs.Apart.{Apart}
 use Rattle.secure_session.specs.Handshake.{challengeOf, receiveCcryptOf, serverCryptogramOf, confirmOf, receiveChallengeOf, receiveScryptOf}
 use Rattle.secure_session.specs.Session.{endNumber, stateNumber, isAt, moved, secured, sendFrom, recvFrom}
 use Rattle.secure_session.specs.declared.session.End.the-variants.{Controller, Reader}
@@ -20,15 +21,6 @@ use Rattle.secure_session.specs.declared.session.Session.{Session}
 use Rattle.secure_session.specs.declared.session.State.the-variants.{Disconnected, Challenged, Cryptogrammed, Secure}
 use Rattle.secure_session.specs.declared.session.State.{State}
 use Rattle.secure_session.proofs.SessionLaws.{send-secured, recv-secured, secured-state, secured-keys}
-
--- both ends before the handshake: Disconnected, with one key
-pub record Apart (c r : Session) : Type 0 where
-  pub controller : c .end ≡ Controller
-  pub reader : r .end ≡ Reader
-  pub from : c .state ≡ Disconnected
-  pub to : r .state ≡ Disconnected
-  pub one-key : c .scbk ≡ r .scbk
-  pub key : Block (c .scbk)
 
 -- what one end sends, the other can take: both Secure, with equal keys, and the one's MACs start where the other's checks do
 pub record Ready (from to : Session) : Type 0 where
@@ -70,11 +62,11 @@ module _ (c r : Session) (a b : List ℕ) (h : Apart c r) where
   -- each call succeeds
   pub challenge-eq : challengeOf c a ≡ record { answer = given tt; session = c₁ }
   unfolding challengeOf
-  challenge-eq = rw (at-law Controller Disconnected c (h .controller) (h .from))
+  challenge-eq = rw (at-law Controller Disconnected c (h .controller) (h .controllerState))
 
   pub asked-eq : receiveChallengeOf r a b ≡ record { answer = given client; session = r₁ }
   unfolding receiveChallengeOf
-  asked-eq = rw (at-law Reader Disconnected r (h .reader) (h .to), ← (h .one-key))
+  asked-eq = rw (at-law Reader Disconnected r (h .reader) (h .readerState), ← (h .oneKey))
 
   pub ccrypt-eq : receiveCcryptOf c₁ (r .cuid) b client ≡ record { answer = given tt; session = c₂ }
   unfolding receiveCcryptOf
@@ -92,21 +84,7 @@ module _ (c r : Session) (a b : List ℕ) (h : Apart c r) where
   unfolding confirmOf
   confirm-eq = rw (at-law Controller Cryptogrammed c₂ (h .controller) refl, eql-refl first)
 
-  pub shake-eq : shake c r a b
-      ≡ record {
-        challenged = given tt;
-        client = given client;
-        accepted = given tt;
-        server = given server;
-        first = given first;
-        confirmed = given tt;
-        controller = secured c₂ first;
-        reader = secured r₁ first;
-      }
-  unfolding shake
-  shake-eq = rw (challenge-eq, asked-eq, ccrypt-eq, server-eq, scrypt-eq, confirm-eq)
-
-  module _ (ha : Nonce a) (hb : Nonce b) where
+  module _ (ha : Random a) (hb : Random b) where
     pub keys-good : GoodKeys keysMade
     keys-good = derive-good (c .scbk) a (h .key) ha
 
@@ -124,8 +102,8 @@ module _ (c r : Session) (a b : List ℕ) (h : Apart c r) where
     }
 
     -- ready both ways
-    pub ready : Ready (shake c r a b .controller) (shake c r a b .reader)
-    ready = rw shake-eq (secured-ready c₂ r₁ refl refl)
+    pub ready : Ready (secured c₂ first) (secured r₁ first)
+    ready = secured-ready c₂ r₁ refl refl
 
-    pub ready-back : Ready (shake c r a b .reader) (shake c r a b .controller)
-    ready-back = rw shake-eq (secured-ready r₁ c₂ refl refl)
+    pub ready-back : Ready (secured r₁ first) (secured c₂ first)
+    ready-back = secured-ready r₁ c₂ refl refl

@@ -1,4 +1,4 @@
 pub mod Session
 pub mod Handshake
-pub mod Hand
+pub mod Apart
 pub mod Channel
