@@ -7,6 +7,7 @@ use packet_head::Sqn;
 use packet_head::SqnAnswer;
 use secure_cipher::LengthAnswer;
 use secure_seal::Direction;
+use secure_seal::Sealed;
 use secure_session::Outcome;
 use secure_session::Session;
 use secure_unseal::PlaceAnswer;
@@ -119,7 +120,32 @@ fn take(to: Session, frame: &[u8], payload: &[u8]) -> Session {
     u.session
 }
 
-// One frame: sealed at one end, opened at the other. The first `open` bytes stand open on the line.
+// What was sealed goes over the line, and its first `open` bytes stand open there.
+fn deliver(s: Sealed, to: Session, payload: &[u8], open: usize, out: &[u8]) -> Passed {
+    let sealed = s.answer;
+    let from = s.session;
+    match sealed {
+        LengthAnswer::Of(len) => {
+            if out.len() < len {
+                return Passed { from, to };
+            }
+            put_number(len);
+            put(b" bytes, open:");
+            put_bytes(&out[..len], open);
+            put(b", sealed by ");
+            put_number(s.calls);
+            put(b" calls");
+            let peer = take(to, &out[..len], payload);
+            Passed { from, to: peer }
+        }
+        LengthAnswer::Refused(_) => {
+            put(b"refused\n");
+            Passed { from, to }
+        }
+    }
+}
+
+// One frame: sealed at one end, opened at the other.
 fn pass(
     from: Session,
     to: Session,
@@ -129,8 +155,8 @@ fn pass(
     code: u8,
     payload: &[u8],
     open: usize,
-    out: &mut [u8],
 ) -> Passed {
+    let mut out = [0u8; 64];
     let address = Address::from_raw(5);
     let s = secure_seal::seal(
         from,
@@ -140,93 +166,42 @@ fn pass(
         encrypt,
         code,
         payload,
-        out,
+        &mut out,
     );
-    let sealed = s.answer;
-    let sender = s.session;
-    match sealed {
-        LengthAnswer::Of(len) => {
-            if out.len() < len {
-                return Passed { from: sender, to };
-            }
-            put_number(len);
-            put(b" bytes, open:");
-            put_bytes(&out[..len], open);
-            put(b", sealed by ");
-            put_number(s.calls);
-            put(b" calls");
-            let peer = take(to, &out[..len], payload);
-            Passed {
-                from: sender,
-                to: peer,
-            }
-        }
-        LengthAnswer::Refused(_) => {
-            put(b"refused\n");
-            Passed { from: sender, to }
-        }
-    }
+    deliver(s, to, payload, open, &out)
 }
 
-// A conversation: the handshake, then five frames from either end. Two are plain, with the same contents in every conversation.
-fn talk(scbk: [u8; 16], rnd_a: [u8; 8], rnd_b: [u8; 8], lamp: &[u8], badge: &[u8]) {
-    let mut line = [0u8; 64];
-    let ends = shake(scbk, *b"cabinet7", rnd_a, rnd_b);
+// A plain frame from each end, with the same contents in every conversation.
+fn talk_plain(ends: Ends) -> Ends {
     let c0 = ends.controller;
     let r0 = ends.reader;
-    let poll = pass(
-        c0,
-        r0,
-        1,
-        Direction::AcuToPd,
-        false,
-        0x60,
-        b"",
-        8,
-        &mut line,
-    );
+    let poll = pass(c0, r0, 1, Direction::AcuToPd, false, 0x60, b"", 8);
     let c1 = poll.from;
     let r1 = poll.to;
-    let status = pass(
-        r1,
-        c1,
-        1,
-        Direction::PdToAcu,
-        false,
-        0x48,
-        b"\x00\x01 closed",
-        17,
-        &mut line,
-    );
-    let r2 = status.from;
-    let c2 = status.to;
-    let lit = pass(
-        c2,
-        r2,
-        2,
-        Direction::AcuToPd,
-        true,
-        0x69,
-        lamp,
-        8,
-        &mut line,
-    );
-    let c3 = lit.from;
-    let r3 = lit.to;
-    let read = pass(
-        r3,
-        c3,
-        2,
-        Direction::PdToAcu,
-        true,
-        0x50,
-        badge,
-        8,
-        &mut line,
-    );
-    let r4 = read.from;
-    let c4 = read.to;
-    pass(c4, r4, 3, Direction::AcuToPd, true, 0x60, b"", 8, &mut line);
+    let closed = b"\x00\x01 closed";
+    let status = pass(r1, c1, 1, Direction::PdToAcu, false, 0x48, closed, 17);
+    let reader = status.from;
+    let controller = status.to;
+    Ends { controller, reader }
+}
+
+// Three encrypted ones.
+fn talk_hidden(ends: Ends, lamp: &[u8], badge: &[u8]) {
+    let c0 = ends.controller;
+    let r0 = ends.reader;
+    let lit = pass(c0, r0, 2, Direction::AcuToPd, true, 0x69, lamp, 8);
+    let c1 = lit.from;
+    let r1 = lit.to;
+    let read = pass(r1, c1, 2, Direction::PdToAcu, true, 0x50, badge, 8);
+    let r2 = read.from;
+    let c2 = read.to;
+    pass(c2, r2, 3, Direction::AcuToPd, true, 0x60, b"", 8);
+}
+
+// A conversation: the handshake, then five frames from either end.
+fn talk(scbk: [u8; 16], rnd_a: [u8; 8], rnd_b: [u8; 8], lamp: &[u8], badge: &[u8]) {
+    let ends = talk_plain(shake(scbk, *b"cabinet7", rnd_a, rnd_b));
+    talk_hidden(ends, lamp, badge);
 }
 
 fn main() {

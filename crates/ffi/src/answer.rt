@@ -11,109 +11,39 @@ pub struct CAnswer {
     pub b: usize,
 }
 
+fn told(refusal: u8, a: usize, b: usize) -> CAnswer
+    ensures { λ r. ⌜ r ≡ record { refusal = refusal; a = a; b = b } ⌝ }
+{
+    CAnswer { refusal, a, b }
+}
+
 pub(crate) fn given(n: usize) -> CAnswer
     ensures { λ r. ⌜ r ≡ cGiven n ⌝ }
 {
-    CAnswer {
-        refusal: 0,
-        a: n,
-        b: 0,
-    }
+    told(0, n, 0)
 }
 
 pub(crate) fn refused(e: Refusal) -> CAnswer
     ensures { λ r. ⌜ r ≡ cRefusal e ⌝ }
 {
     match e {
-        Refusal::Truncated { have, need } => CAnswer {
-            refusal: 1,
-            a: have,
-            b: need,
-        },
-        Refusal::BadSom(b) => CAnswer {
-            refusal: 2,
-            a: b as usize,
-            b: 0,
-        },
-        Refusal::BadControlByte(b) => CAnswer {
-            refusal: 3,
-            a: b as usize,
-            b: 0,
-        },
-        Refusal::BadLength { declared, actual } => CAnswer {
-            refusal: 4,
-            a: declared,
-            b: actual,
-        },
-        Refusal::BadSecurityBlockLength(b) => CAnswer {
-            refusal: 5,
-            a: b as usize,
-            b: 0,
-        },
-        Refusal::BadSecurityBlock(b) => CAnswer {
-            refusal: 6,
-            a: b as usize,
-            b: 0,
-        },
-        Refusal::BadCrc { got, want } => CAnswer {
-            refusal: 7,
-            a: got as usize,
-            b: want as usize,
-        },
-        Refusal::BadChecksum { got, want } => CAnswer {
-            refusal: 8,
-            a: got as usize,
-            b: want as usize,
-        },
-        Refusal::BadAddress(b) => CAnswer {
-            refusal: 9,
-            a: b as usize,
-            b: 0,
-        },
-        Refusal::BadSqn(b) => CAnswer {
-            refusal: 10,
-            a: b as usize,
-            b: 0,
-        },
-        Refusal::BadMac => CAnswer {
-            refusal: 11,
-            a: 0,
-            b: 0,
-        },
-        Refusal::BufferOverflow { need, have } => CAnswer {
-            refusal: 12,
-            a: need,
-            b: have,
-        },
-        Refusal::NotSecure => CAnswer {
-            refusal: 13,
-            a: 0,
-            b: 0,
-        },
-        Refusal::BadPadding => CAnswer {
-            refusal: 14,
-            a: 0,
-            b: 0,
-        },
-        Refusal::BadCryptogram => CAnswer {
-            refusal: 15,
-            a: 0,
-            b: 0,
-        },
-        Refusal::WrongState => CAnswer {
-            refusal: 16,
-            a: 0,
-            b: 0,
-        },
-        Refusal::BlockTooLong(n) => CAnswer {
-            refusal: 17,
-            a: n,
-            b: 0,
-        },
-        Refusal::NoRoom { need, have } => CAnswer {
-            refusal: 18,
-            a: need,
-            b: have,
-        },
+        Refusal::Truncated { have, need } => told(1, have, need),
+        Refusal::BadSom(b) => told(2, b as usize, 0),
+        Refusal::BadControlByte(b) => told(3, b as usize, 0),
+        Refusal::BadLength { declared, actual } => told(4, declared, actual),
+        Refusal::BadSecurityBlockLength(b) => told(5, b as usize, 0),
+        Refusal::BadSecurityBlock(b) => told(6, b as usize, 0),
+        Refusal::BadCrc { got, want } => told(7, got as usize, want as usize),
+        Refusal::BadChecksum { got, want } => told(8, got as usize, want as usize),
+        Refusal::BadAddress(b) => told(9, b as usize, 0),
+        Refusal::BadSqn(b) => told(10, b as usize, 0),
+        Refusal::BadMac => told(11, 0, 0),
+        Refusal::BufferOverflow { need, have } => told(12, need, have),
+        Refusal::NotSecure => told(13, 0, 0),
+        Refusal::BadPadding => told(14, 0, 0),
+        Refusal::BadCryptogram => told(15, 0, 0),
+        Refusal::WrongState => told(16, 0, 0),
+        Refusal::BlockTooLong(n) => told(17, n, 0),
+        Refusal::NoRoom { need, have } => told(18, need, have),
     }
 }
