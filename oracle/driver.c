@@ -22,12 +22,20 @@ static void put8(uint8_t x) { put(&x, 1); }
 static void put16(uint16_t x) { put8((uint8_t)x); put8((uint8_t)(x >> 8)); }
 static void put64(uint64_t x) { for (int i = 0; i < 8; i++) put8((uint8_t)(x >> (8 * i))); }
 static void put_answer(MalstrinkAnswer a) { put8(a.refusal); put64(a.a); put64(a.b); }
+/* A length that is known only once what it counts has been put; its four bytes were put before. */
+static void set32(size_t at, size_t n) { for (int i = 0; i < 4; i++) answers[at + i] = (uint8_t)(n >> (8 * i)); }
 static uint32_t get32(const uint8_t *p) { return p[0] | p[1] << 8 | p[2] << 16 | (uint32_t)p[3] << 24; }
 static uint64_t get64(const uint8_t *p) { return get32(p) | (uint64_t)get32(p + 4) << 32; }
 
-/* What a lent buffer holds before the call; GUARD bytes more follow it, which no call may touch. */
+/* A lent buffer: it is filled before the call, and GUARD bytes more follow it, which no call may touch. All of it is put after the call. */
 enum { GUARD = 16 };
-static void fill(uint8_t *out, size_t n) { for (size_t i = 0; i < n; i++) out[i] = (uint8_t)(0xA5 ^ (i * 7)); }
+static uint8_t *lend(size_t room) {
+    uint8_t *out = malloc(room + GUARD);
+    if (!out) exit(3);
+    for (size_t i = 0; i < room + GUARD; i++) out[i] = (uint8_t)(0xA5 ^ (i * 7));
+    return out;
+}
+static void put_lent(uint8_t *out, size_t room) { put(out, room + GUARD); free(out); }
 
 static void parse(const uint8_t *in, size_t n) {
     MalstrinkParsed p = malstrink_parse(in, n);
@@ -43,12 +51,9 @@ static void build(const uint8_t *in, bool body) {
     MalstrinkMac mac = { in[6], in[7], in[8], in[9], in[10] };
     size_t bn = get32(in + 11), dn = get32(in + 15), room = get32(in + 19);
     const uint8_t *block = in + 23, *data = block + bn;
-    uint8_t *out = malloc(room + GUARD);
-    if (!out) exit(3);
-    fill(out, room + GUARD);
+    uint8_t *out = lend(room);
     put_answer(body ? malstrink_build_body(p, block, bn, data, dn, out, room) : malstrink_build(p, block, bn, data, dn, mac, out, room));
-    put(out, room + GUARD);
-    free(out);
+    put_lent(out, room);
 }
 
 static MalstrinkBytes16 get16(const uint8_t *p) { MalstrinkBytes16 b; memcpy(b.bytes, p, 16); return b; }
@@ -74,9 +79,7 @@ static void keys(uint8_t op, const uint8_t *in) {
 static void cipher(uint8_t op, const uint8_t *in, size_t n) {
     size_t room = get32(in), dn = n - 36;
     MalstrinkBytes16 k = get16(in + 4), v = get16(in + 20);
-    uint8_t *out = malloc(room + GUARD);
-    if (!out) exit(3);
-    fill(out, room + GUARD);
+    uint8_t *out = lend(room);
     if (op == 22) put_answer(malstrink_pad_mac(in + 36, dn, out, room));
     else if (op == 23) put_answer(malstrink_pad_data(in + 36, dn, out, room));
     else {
@@ -84,8 +87,7 @@ static void cipher(uint8_t op, const uint8_t *in, size_t n) {
         put_answer(c.answer);
         put64(c.calls);
     }
-    put(out, room + GUARD);
-    free(out);
+    put_lent(out, room);
 }
 
 /* A session is bytes all through, in the order of its fields. */
@@ -124,9 +126,7 @@ static void channel(uint8_t op, const uint8_t *in, size_t n) {
     MalstrinkSession s = get_session(in);
     const uint8_t *x = in + sizeof s + 4, *bytes = op == 44 ? x + 5 : x;
     size_t room = get32(in + sizeof s), m = n - (size_t)(bytes - in);
-    uint8_t *out = malloc(room + GUARD);
-    if (!out) exit(3);
-    fill(out, room + GUARD);
+    uint8_t *out = lend(room);
     if (op == 44) {
         MalstrinkToSeal p = { x[0], x[1], x[2], x[3], x[4] };
         MalstrinkSealed r = malstrink_seal(s, p, slice(bytes, m), m, out, room);
@@ -139,8 +139,7 @@ static void channel(uint8_t op, const uint8_t *in, size_t n) {
                                        : malstrink_session_open_data(s, slice(bytes, m), m, out, room);
         put_answer(r.answer); put64(r.calls);
     }
-    put(out, room + GUARD);
-    free(out);
+    put_lent(out, room);
 }
 
 /* Which slice, start, length, the length of the frame; then the frame and the work buffer. */
@@ -190,11 +189,10 @@ int main(void) {
             size_t len = get32(batch + at + 1), before = used;
             put("\0\0\0\0", 4);
             call(batch[at], batch + at + 5, len);
-            size_t got = used - before - 4;
-            for (int i = 0; i < 4; i++) answers[before + i] = (uint8_t)(got >> (8 * i));
+            set32(before, used - before - 4);
             at += 5 + len;
         }
-        for (int i = 0; i < 4; i++) answers[i] = (uint8_t)((used - 4) >> (8 * i));
+        set32(0, used - 4);
         if (fwrite(answers, 1, used, stdout) != used || fflush(stdout)) return 2;
     }
     return 0;

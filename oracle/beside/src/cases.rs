@@ -30,6 +30,11 @@ impl Random {
     pub fn bool(&mut self) -> bool {
         self.next() >> 63 == 1
     }
+    /// Turns one bit of them.
+    pub fn spoil(&mut self, bytes: &mut [u8]) {
+        let i = self.below(bytes.len());
+        bytes[i] ^= 1 << self.below(8);
+    }
     pub fn pick<T: Copy>(&mut self, of: &[T]) -> T {
         of[self.below(of.len())]
     }
@@ -79,28 +84,24 @@ fn bytes(c: &mut Compare) {
     }
 }
 
-/// All inputs up to a length over an alphabet: bytes that a frame's tests tell apart.
+/// All inputs up to a length over an alphabet.
+fn over(alphabet: &[u8], longest: u32) -> impl Iterator<Item = Vec<u8>> {
+    let letters = alphabet.len();
+    let input = move |n: u32, k: usize| (0..n).map(|i| alphabet[k / letters.pow(i) % letters]).collect();
+    (0..=longest).flat_map(move |n| (0..letters.pow(n)).map(move |k| input(n, k)))
+}
+
 fn exhaustive(c: &mut Compare) {
-    for n in 0..=2 {
-        for k in 0..256usize.pow(n) {
-            let s: Vec<u8> = (0..n).map(|i| (k >> (8 * i)) as u8).collect();
-            c.ask(CHECKSUM8, s.clone());
-            c.ask(CRC16, s.clone());
-            c.ask(BLOCK, s.clone());
-            c.ask(PARSE, s);
-        }
+    for s in over(&Vec::from_iter(0..=255), 2) {
+        c.ask(CHECKSUM8, s.clone());
+        c.ask(CRC16, s.clone());
+        c.ask(BLOCK, s.clone());
+        c.ask(PARSE, s);
     }
-    let alphabet = [0x53, 0x00, 0x07, 0x08, 0x09, 0x0C];
-    for n in 0..=6u32 {
-        for mut k in 0..alphabet.len().pow(n) {
-            let mut s = Vec::new();
-            for _ in 0..n {
-                s.push(alphabet[k % alphabet.len()]);
-                k /= alphabet.len();
-            }
-            c.ask(HEAD, s.clone());
-            c.ask(PARSE, s);
-        }
+    // bytes that a frame's tests tell apart
+    for s in over(&[0x53, 0x00, 0x07, 0x08, 0x09, 0x0C], 6) {
+        c.ask(HEAD, s.clone());
+        c.ask(PARSE, s);
     }
     // every control byte, LEN up to 24, four lengths of buffer
     for ctrl in 0..=255u8 {
@@ -252,7 +253,20 @@ fn building(c: &mut Compare, r: &mut Random, count: u64) {
             }
         }
     }
-    // the limits: block data of 253 and more, a total of 65,535 and one more
+    building_limits(c, r);
+    for _ in 0..count / 60 {
+        let ty = if r.below(4) == 0 { 0 } else { r.pick(&TYPES) };
+        let due = ty >= 0x15;
+        let mac = (due != (r.below(8) == 0)).then(|| r.bytes(4).try_into().unwrap());
+        let flag = (ty != 0) != (r.below(16) == 0);
+        let (block, data) = (r.below(20), r.below(60));
+        let (block, data) = (r.bytes(block), r.bytes(data));
+        build(c, Ask { addr: r.byte(), sqn: r.byte() & 3, crc: r.bool(), flag, ty, code: r.byte(), mac, block, data, room: 0 });
+    }
+}
+
+/// Block data of 253 bytes and more, a total of 65,535 and one more.
+fn building_limits(c: &mut Compare, r: &mut Random) {
     for ty in TYPES {
         for crc in [false, true] {
             for block in [252, 253, 254, 255, 256, 300] {
@@ -272,49 +286,43 @@ fn building(c: &mut Compare, r: &mut Random, count: u64) {
             }
         }
     }
-    for _ in 0..count / 60 {
-        let ty = if r.below(4) == 0 { 0 } else { r.pick(&TYPES) };
-        let due = ty >= 0x15;
-        let mac = (due != (r.below(8) == 0)).then(|| r.bytes(4).try_into().unwrap());
-        let flag = (ty != 0) != (r.below(16) == 0);
-        let (block, data) = (r.below(20), r.below(60));
-        let (block, data) = (r.bytes(block), r.bytes(data));
-        build(c, Ask { addr: r.byte(), sqn: r.byte() & 3, crc: r.bool(), flag, ty, code: r.byte(), mac, block, data, room: 0 });
-    }
 }
 
-/// Paddings of 0 to 70 bytes in every room around what they need, MAC, CBC, keys and cryptograms.
-fn ciphers(c: &mut Compare, r: &mut Random, count: u64) {
-    let around = |n: usize| [n, n + 1, n.saturating_sub(1), 0, n + 16];
-    let ask = |c: &mut Compare, op: u8, room: usize, keys: &[u8], data: &[u8]| {
-        c.ask(op, [&(room as u32).to_le_bytes(), &keys[..32], data].concat());
-    };
+/// The room that is needed, and others around it.
+fn around(n: usize) -> [usize; 5] {
+    [n, n + 1, n.saturating_sub(1), 0, n + 16]
+}
+
+/// A call that is handed a buffer's room, key and start value, and data.
+fn cipher(c: &mut Compare, op: u8, room: usize, keys: &[u8], data: &[u8]) {
+    c.ask(op, [&(room as u32).to_le_bytes(), &keys[..32], data].concat());
+}
+
+/// Paddings and CBC of 0 to 70 bytes, in every room around what they need.
+fn paddings(c: &mut Compare, r: &mut Random) {
     for n in 0..=70 {
         for _ in 0..4 {
             let (keys, data) = (r.bytes(32), r.bytes(n));
             for room in around(n / 16 * 16 + 16) {
                 for op in [PAD_MAC, PAD_DATA, ENCRYPT, DECRYPT] {
-                    ask(c, op, room, &keys, &data);
+                    cipher(c, op, room, &keys, &data);
                 }
             }
             for room in around(n) {
                 for op in [PAD_MAC, DECRYPT] {
-                    ask(c, op, room, &keys, &data);
+                    cipher(c, op, room, &keys, &data);
                 }
             }
         }
     }
     // everything that padding can look like over a small alphabet
-    for n in 0..=7u32 {
-        for mut k in 0..4usize.pow(n) {
-            let mut s = Vec::new();
-            for _ in 0..n {
-                s.push([0x00, 0x80, 0x41, 0x81][k % 4]);
-                k /= 4;
-            }
-            c.ask(UNPAD, s);
-        }
+    for s in over(&[0x00, 0x80, 0x41, 0x81], 7) {
+        c.ask(UNPAD, s);
     }
+}
+
+/// MAC, CBC, keys and cryptograms.
+fn ciphers(c: &mut Compare, r: &mut Random, count: u64) {
     for _ in 0..count / 60 {
         let keys = r.bytes(48);
         c.ask(r.pick(&[AES_ENCRYPT, AES_DECRYPT]), keys.clone());
@@ -322,17 +330,16 @@ fn ciphers(c: &mut Compare, r: &mut Random, count: u64) {
         let n = r.below(100);
         let data = r.bytes(n);
         c.ask(CBC_MAC, [&keys[..], &data].concat());
-        ask(c, ENCRYPT, 112, &keys, &data);
-        // good encrypted data, the same with its last block spoiled, and a payload of padding bytes
+        cipher(c, ENCRYPT, 112, &keys, &data);
+        // good encrypted data and the same with one bit turned, of any payload and of one that looks like padding
         let (k, v) = (keys[..16].try_into().unwrap(), keys[16..32].try_into().unwrap());
         let text: Vec<u8> = data.iter().map(|b| if r.below(3) == 0 { 0x80 } else { b & 0x80 }).collect();
         for text in [&data, &text] {
             let mut hidden = encrypt_data(k, v, text);
             let room = r.pick(&around(hidden.len()));
-            ask(c, DECRYPT, room, &keys, &hidden);
-            let i = r.below(hidden.len());
-            hidden[i] ^= 1 << r.below(8);
-            ask(c, DECRYPT, hidden.len(), &keys, &hidden);
+            cipher(c, DECRYPT, room, &keys, &hidden);
+            r.spoil(&mut hidden);
+            cipher(c, DECRYPT, hidden.len(), &keys, &hidden);
         }
     }
 }
@@ -344,6 +351,7 @@ pub fn all(c: &mut Compare, seed: u64, count: u64) {
     sums(c, &mut r, count);
     parsing(c, &mut r, count);
     building(c, &mut r, count);
+    paddings(c, &mut r);
     ciphers(c, &mut r, count);
     talk::all(c, &mut r, count);
 }

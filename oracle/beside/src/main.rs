@@ -73,7 +73,7 @@ impl Compare {
         let got = ours.receive();
         let mut at = 0;
         for (op, (want, name), input) in asked {
-            let n = u32::from_le_bytes(got[at..at + 4].try_into().unwrap()) as usize;
+            let n = wire::u32_at(&got, at);
             self.compare(op, input, &want.0, &got[at + 4..at + 4 + n], name);
             at += 4 + n;
         }

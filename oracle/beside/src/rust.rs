@@ -45,8 +45,14 @@ fn plain(r: Result<usize, Error>) -> Answer {
     (o, None)
 }
 
+/// The same where a sequence number is asked for: the Rust refuses one above 3 before the call.
+fn with_sqn(n: u8, given: impl FnOnce(Sqn) -> u8) -> Answer {
+    let (o, _) = plain(Sqn::new(n).map(|n| given(n).into()));
+    (o, (n > 3).then_some(SQN_ABOVE_3))
+}
+
 /// Where a part of `all` starts.
-fn at(all: &[u8], part: &[u8]) -> usize {
+pub fn at(all: &[u8], part: &[u8]) -> usize {
     part.as_ptr() as usize - all.as_ptr() as usize
 }
 
@@ -108,6 +114,11 @@ fn parse(buf: &[u8]) -> Answer {
     (o, None)
 }
 
+pub fn flags(crc: bool, block: bool) -> CtrlFlags {
+    let one = |on: bool, flag: CtrlFlags| if on { flag } else { CtrlFlags::empty() };
+    one(crc, CtrlFlags::USE_CRC) | one(block, CtrlFlags::HAS_SCB)
+}
+
 /// What is asked to be built, as it travels.
 #[derive(Clone, Debug)]
 pub struct Ask {
@@ -131,8 +142,7 @@ impl Ask {
         o.0
     }
     fn read(b: &[u8]) -> Self {
-        let n = |i: usize| u32::from_le_bytes(b[i..i + 4].try_into().unwrap()) as usize;
-        let (bn, dn) = (n(11), n(15));
+        let (bn, dn) = (u32_at(b, 11), u32_at(b, 15));
         Self {
             addr: b[0],
             sqn: b[1],
@@ -140,41 +150,36 @@ impl Ask {
             flag: b[3] != 0,
             ty: b[4],
             code: b[5],
-            mac: (b[6] != 0).then(|| b[7..11].try_into().unwrap()),
+            mac: (b[6] != 0).then(|| array(b, 7)),
             block: b[23..23 + bn].to_vec(),
             data: b[23 + bn..23 + bn + dn].to_vec(),
-            room: n(19),
+            room: u32_at(b, 19),
         }
     }
     /// The Rust's packet; `Err` where it cannot be made.
     pub fn packet(&self) -> Result<Packet, Error> {
         let sqn = Sqn::new(self.sqn)?;
         let scb = if self.ty == 0 { None } else { Some(Scb::new(ScsType::from_byte(self.ty)?, self.block.clone())) };
-        let mut flags = CtrlFlags::empty();
-        if self.crc {
-            flags = flags | CtrlFlags::USE_CRC;
-        }
-        if self.flag {
-            flags = flags | CtrlFlags::HAS_SCB;
-        }
-        Ok(Packet { addr: Address::from_raw(self.addr), ctrl: ControlByte::new(sqn, flags), scb, code: self.code, data: self.data.clone() })
+        let ctrl = ControlByte::new(sqn, flags(self.crc, self.flag));
+        Ok(Packet { addr: Address::from_raw(self.addr), ctrl, scb, code: self.code, data: self.data.clone() })
     }
 }
 
-/// The answer, and what the buffer holds in the end.
-pub fn into_buffer(room: usize, answer: (u8, usize, usize), written: &[u8], name: Option<&'static str>) -> Answer {
+/// The answer, what stands between it and the buffer, and what the buffer holds in the end.
+pub fn into_buffer(room: usize, answer: (u8, usize, usize), between: &[u8], written: &[u8], name: Option<&'static str>) -> Answer {
     let mut buffer = fill(room + GUARD);
     buffer[..written.len()].copy_from_slice(written);
     let mut o = Out::default();
-    o.answer(answer).bytes(&buffer);
+    o.answer(answer).bytes(between).bytes(&buffer);
     (o, name)
 }
 
 fn build(ask: &Ask, body: bool) -> Answer {
     let room = ask.room;
+    let told = |answer, written: &[u8], name| into_buffer(room, answer, &[], written, name);
     let packet = match ask.packet() {
         Ok(p) => p,
-        Err(e) => return into_buffer(room, number(&e), &[], matches!(e, Error::BadSqn(_)).then_some(SQN_ABOVE_3)),
+        Err(e) => return told(number(&e), &[], matches!(e, Error::BadSqn(_)).then_some(SQN_ABOVE_3)),
     };
     let due = packet.scb.as_ref().is_some_and(|s| s.ty.has_mac());
     let mut before_mac = Vec::new();
@@ -187,20 +192,20 @@ fn build(ask: &Ask, body: bool) -> Answer {
         None => packet.encode(),
     };
     if let Err(e @ (Error::BadControlByte(_) | Error::BadMac)) = &made {
-        return into_buffer(room, number(e), &[], None);
+        return told(number(e), &[], None);
     }
     if (body || ask.mac.is_some()) && !due {
-        return into_buffer(room, (11, 0, 0), &[], Some(UNDUE_MAC));
+        return told((11, 0, 0), &[], Some(UNDUE_MAC));
     }
     if packet.scb.as_ref().is_some_and(|s| s.data.len() > 253) {
-        return into_buffer(room, (17, ask.block.len(), 0), &[], Some(BLOCK_TOO_LONG));
+        return told((17, ask.block.len(), 0), &[], Some(BLOCK_TOO_LONG));
     }
     match made {
-        Err(e) => into_buffer(room, number(&e), &[], None),
-        Ok(frame) if room < frame.len() => into_buffer(room, (18, frame.len(), room), &[], Some(NO_ROOM)),
+        Err(e) => told(number(&e), &[], None),
+        Ok(frame) if room < frame.len() => told((18, frame.len(), room), &[], Some(NO_ROOM)),
         Ok(frame) => {
             let bytes = if body { &before_mac } else { &frame };
-            into_buffer(room, (0, bytes.len(), 0), bytes, None)
+            told((0, bytes.len(), 0), bytes, None)
         }
     }
 }
@@ -211,41 +216,50 @@ pub fn calls() -> u64 {
 
 /// 48 bytes in three blocks.
 fn keys(op: u8, input: &[u8]) -> Answer {
-    let block = |i: usize| -> [u8; 16] { input[i..i + 16].try_into().unwrap() };
-    let eight = |i: usize| -> [u8; 8] { input[i..i + 8].try_into().unwrap() };
-    let k = block(0);
+    let k = array(input, 0);
     let mut o = Out::default();
     let last = match op {
         AES_ENCRYPT => {
-            let b = aes128_encrypt(&k, &block(16));
-            assert_eq!(b, second::encrypt(&k, &block(16)), "the Rust's AES is not OpenSSL's");
+            let b = aes128_encrypt(&k, &array(input, 16));
+            assert_eq!(b, second::encrypt(&k, &array(input, 16)), "the Rust's AES is not OpenSSL's");
             b
         }
         AES_DECRYPT => {
-            let b = aes128_decrypt(&k, &block(16));
-            assert_eq!(b, second::decrypt(&k, &block(16)), "the Rust's AES is not OpenSSL's");
+            let b = aes128_decrypt(&k, &array(input, 16));
+            assert_eq!(b, second::decrypt(&k, &array(input, 16)), "the Rust's AES is not OpenSSL's");
             b
         }
         DERIVE => {
-            let keys = SessionKeys::derive(&k, &eight(16));
+            let keys = SessionKeys::derive(&k, &array(input, 16));
             o.bytes(&keys.s_enc).bytes(&keys.s_mac1);
             keys.s_mac2
         }
-        CLIENT => client_cryptogram(&k, &eight(16), &eight(24)),
-        SERVER => server_cryptogram(&k, &eight(16), &eight(24)),
-        FIRST => initial_rmac(&k, &block(16), &block(32)),
-        DIVERSIFY => diversify_scbk_legacy(&k, &eight(16)),
+        CLIENT => client_cryptogram(&k, &array(input, 16), &array(input, 24)),
+        SERVER => server_cryptogram(&k, &array(input, 16), &array(input, 24)),
+        FIRST => initial_rmac(&k, &array(input, 16), &array(input, 32)),
+        DIVERSIFY => diversify_scbk_legacy(&k, &array(input, 16)),
         _ => complement_icv(&k),
     };
     o.bytes(&last);
     (o, None)
 }
 
-/// Room, key and start value, then the data. The Rust grows a vector: no room is the paper's own refusal. A deciphering that is
-/// refused wipes the data's length in the buffer, one that is not leaves zeros behind the payload up to that length.
+/// The answer of a deciphering and what it leaves over the data's length: zeros behind the payload, or alone where it is refused.
+pub fn deciphered(text: Result<Vec<u8>, SecureSessionError>, data_n: usize) -> ((u8, usize, usize), Vec<u8>) {
+    match text {
+        Ok(mut text) => {
+            let n = text.len();
+            text.resize(data_n, 0);
+            ((0, n, 0), text)
+        }
+        Err(e) => (number(&e.into()), vec![0; data_n]),
+    }
+}
+
+/// Room, key and start value, then the data. The Rust grows a vector: no room is the paper's own refusal.
 fn cipher(op: u8, input: &[u8]) -> Answer {
-    let room = u32::from_le_bytes(input[..4].try_into().unwrap()) as usize;
-    let (k, v) = (input[4..20].try_into().unwrap(), input[20..36].try_into().unwrap());
+    let room = u32_at(input, 0);
+    let (k, v) = (&array(input, 4), &array(input, 20));
     let data = &input[36..];
     let before = calls();
     let (answer, written) = match op {
@@ -258,29 +272,15 @@ fn cipher(op: u8, input: &[u8]) -> Answer {
             let hidden = encrypt_data(k, v, data);
             ((0, hidden.len(), 0), hidden)
         }
-        _ => match decrypt_data(k, v, data) {
-            Ok(mut text) => {
-                let n = text.len();
-                text.resize(data.len(), 0);
-                ((0, n, 0), text)
-            }
-            Err(e) => (number(&e.into()), vec![0; data.len()]),
-        },
+        _ => deciphered(decrypt_data(k, v, data), data.len()),
     };
-    let made = (calls() - before) as usize;
-    let counted = |o: Answer, n: usize| {
-        let mut all = Out::default();
-        all.bytes(&o.0.0[..17]);
-        if op >= ENCRYPT {
-            all.u64(n);
-        }
-        all.bytes(&o.0.0[17..]);
-        (all, o.1)
-    };
+    let made = calls() - before;
+    // the paddings do not tell of calls
+    let told = |calls: u64| if op >= ENCRYPT { calls.to_le_bytes().to_vec() } else { Vec::new() };
     if room < written.len() {
-        counted(into_buffer(room, (18, written.len(), room), &[], Some(NO_ROOM)), 0)
+        into_buffer(room, (18, written.len(), room), &told(0), &[], Some(NO_ROOM))
     } else {
-        counted(into_buffer(room, answer, &written, None), made)
+        into_buffer(room, answer, &told(made), &written, None)
     }
 }
 
@@ -296,10 +296,7 @@ pub fn call(op: u8, input: &[u8]) -> Answer {
         ADDRESS_PD => return plain(Address::pd(input[0]).map(|a| a.as_byte().into())),
         ADDRESS_REPLY => return plain(Address::reply(input[0]).map(|a| a.as_byte().into())),
         SQN_NEW => return plain(Sqn::new(input[0]).map(|n| n.value().into())),
-        SQN_NEXT => {
-            let (o, _) = plain(Sqn::new(input[0]).map(|n| n.next().value().into()));
-            return (o, (input[0] > 3).then_some(SQN_ABOVE_3));
-        }
+        SQN_NEXT => return with_sqn(input[0], |n| n.next().value()),
         CONTROL_DECODE => match ControlByte::decode(input[0]) {
             Ok(c) => {
                 assert_eq!(c.encode(), input[0]);
@@ -307,17 +304,7 @@ pub fn call(op: u8, input: &[u8]) -> Answer {
             }
             Err(e) => o.answer(number(&e)).bytes(&[0; 3]),
         },
-        CONTROL_ENCODE => {
-            let mut flags = CtrlFlags::empty();
-            if input[1] != 0 {
-                flags = flags | CtrlFlags::USE_CRC;
-            }
-            if input[2] != 0 {
-                flags = flags | CtrlFlags::HAS_SCB;
-            }
-            let (o, _) = plain(Sqn::new(input[0]).map(|n| ControlByte::new(n, flags).encode().into()));
-            return (o, (input[0] > 3).then_some(SQN_ABOVE_3));
-        }
+        CONTROL_ENCODE => return with_sqn(input[0], |n| ControlByte::new(n, flags(input[1] != 0, input[2] != 0)).encode()),
         SCS_TYPE => return plain(ScsType::from_byte(input[0]).map(|t| t.as_byte().into())),
         BLOCK => return block(input),
         HEAD => return head(input),
@@ -328,9 +315,8 @@ pub fn call(op: u8, input: &[u8]) -> Answer {
         PAD_MAC | PAD_DATA | ENCRYPT | DECRYPT => return cipher(op, input),
         UNPAD => return plain(unpad_data(input).map(|s| s.len()).map_err(Error::from)),
         CBC_MAC => {
-            let block = |i: usize| -> [u8; 16] { input[i..i + 16].try_into().unwrap() };
             let before = calls();
-            let full = cbc_mac(&input[48..], &block(0), &block(16), &block(32));
+            let full = cbc_mac(&input[48..], &array(input, 0), &array(input, 16), &array(input, 32));
             o.bytes(&full).u64((calls() - before) as usize)
         }
         _ => return session::call(op, input),

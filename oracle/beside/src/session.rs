@@ -6,7 +6,7 @@
 //!
 //! The Rust has no reader's end. What 01 says of it is said with the Rust's own functions for keys and cryptograms, and a reader's
 //! session that is Secure is the Rust's `Session<Secure>`, which does not know its end. The wipe is 01's alone.
-use crate::rust::{Answer, NO_ROOM, SQN_ABOVE_3, calls, into_buffer, number};
+use crate::rust::{Answer, NO_ROOM, SQN_ABOVE_3, at, calls, deciphered, into_buffer, number};
 use crate::wire::*;
 use osdp::error::Error;
 use osdp::packet::{Address, ParsedPacket, Sqn};
@@ -50,13 +50,13 @@ const fn start(i: usize) -> usize {
 impl Held {
     pub const LEN: usize = 2 + BYTES;
     pub fn read(bytes: &[u8]) -> Self {
-        Self { end: bytes[0], state: bytes[1], fields: bytes[2..Self::LEN].try_into().unwrap() }
+        Self { end: bytes[0], state: bytes[1], fields: array(bytes, 2) }
     }
     pub fn bytes(&self) -> Vec<u8> {
         [&[self.end, self.state][..], &self.fields].concat()
     }
     fn field<const N: usize>(&self, i: usize) -> [u8; N] {
-        self.fields[start(i)..][..N].try_into().unwrap()
+        array(&self.fields, start(i))
     }
     fn set(&mut self, i: usize, bytes: &[u8]) {
         assert_eq!(bytes.len(), FIELDS[i]);
@@ -184,10 +184,6 @@ fn apart<S>(end: u8, state: u8, s: &Session<S>) -> Held {
     Held { end, state, fields: Places::get().apart(s) }
 }
 
-fn array<const N: usize>(bytes: &[u8], at: usize) -> [u8; N] {
-    bytes[at..at + N].try_into().unwrap()
-}
-
 const DONE: (u8, usize, usize) = (0, 0, 0);
 const WRONG: (u8, usize, usize) = (16, 0, 0);
 
@@ -291,17 +287,9 @@ fn secure(op: u8, held: Held, x: &[u8]) -> Answer {
     }
 }
 
-/// The answer, what stands between it and the buffer, and the buffer in the end.
-fn beside_buffer(room: usize, answer: (u8, usize, usize), between: &[u8], written: &[u8], name: Option<&'static str>) -> Answer {
-    let (all, name) = into_buffer(room, answer, written, name);
-    let mut o = Out::default();
-    o.bytes(&all.0[..17]).bytes(between).bytes(&all.0[17..]);
-    (o, name)
-}
-
 /// Enciphering and deciphering on a session: a deciphering that is refused zeroes the data's length.
 fn on_session(op: u8, held: &Held, room: usize, bytes: &[u8]) -> Answer {
-    let counted = |answer, calls: u64, written: &[u8], name| beside_buffer(room, answer, &calls.to_le_bytes(), written, name);
+    let counted = |answer, calls: u64, written: &[u8], name| into_buffer(room, answer, &calls.to_le_bytes(), written, name);
     if !held.is_secure() {
         return counted(WRONG, 0, &[], Some(WRONG_STATE));
     }
@@ -311,14 +299,7 @@ fn on_session(op: u8, held: &Held, room: usize, bytes: &[u8]) -> Answer {
         let hidden = s.seal_data(bytes);
         ((0, hidden.len(), 0), hidden)
     } else {
-        match s.open_data(bytes) {
-            Ok(mut text) => {
-                let n = text.len();
-                text.resize(bytes.len(), 0);
-                ((0, n, 0), text)
-            }
-            Err(e) => (number(&e.into()), vec![0; bytes.len()]),
-        }
+        deciphered(s.open_data(bytes), bytes.len())
     };
     if room < written.len() {
         return counted((18, written.len(), room), 0, &[], Some(NO_ROOM));
@@ -328,7 +309,7 @@ fn on_session(op: u8, held: &Held, room: usize, bytes: &[u8]) -> Answer {
 
 fn seal(held: &Held, room: usize, asked: &[u8], data: &[u8]) -> Answer {
     let sealed = |answer, calls: u64, held: &Held, written: &[u8], name| {
-        beside_buffer(room, answer, &[&calls.to_le_bytes()[..], &held.bytes()].concat(), written, name)
+        into_buffer(room, answer, &[&calls.to_le_bytes()[..], &held.bytes()].concat(), written, name)
     };
     if !held.is_secure() {
         return sealed(WRONG, 0, held, &[], Some(WRONG_STATE));
@@ -360,7 +341,7 @@ type Place = (bool, usize, usize);
 fn unsealed(room: usize, answer: (u8, usize, usize), place: Place, calls: u64, held: &Held, written: &[u8], name: Option<&'static str>) -> Answer {
     let mut o = Out::default();
     o.bool(place.0).u64(place.1).u64(place.2).u64(calls as usize).bytes(&held.bytes());
-    beside_buffer(room, answer, &o.0, written, name)
+    into_buffer(room, answer, &o.0, written, name)
 }
 
 fn unseal(held: &Held, room: usize, frame: &[u8]) -> Answer {
@@ -396,7 +377,7 @@ fn unseal(held: &Held, room: usize, frame: &[u8]) -> Answer {
         }
         Ok(text) => {
             assert_eq!(text, p.data);
-            let start = p.data.as_ptr() as usize - frame.as_ptr() as usize;
+            let start = at(frame, p.data);
             unsealed(room, DONE, (false, start, d), made, &after, &[], None)
         }
     }
@@ -405,7 +386,7 @@ fn unseal(held: &Held, room: usize, frame: &[u8]) -> Answer {
 /// The Rust answers a vector where ours answers a place, so this is 01's alone.
 fn payload_test(x: &[u8]) -> Answer {
     let (start, len) = (u64::from_le_bytes(array(x, 1)) as u128, u64::from_le_bytes(array(x, 9)) as u128);
-    let frame = u32::from_le_bytes(array(x, 17)) as usize;
+    let frame = u32_at(x, 17);
     let size = if x[0] != 0 { x.len() - 21 - frame } else { frame };
     let end = start + len;
     shown(if end > size as u128 { (1, size, end.min(u64::MAX as u128) as usize) } else { DONE }, &[], None)
@@ -430,7 +411,7 @@ pub fn call(op: u8, input: &[u8]) -> Answer {
         _ => {}
     }
     let (held, x) = (Held::read(input), &input[Held::LEN..]);
-    let room = || u32::from_le_bytes(array(x, 0)) as usize;
+    let room = || u32_at(x, 0);
     match op {
         CHALLENGE | RECEIVE_CCRYPT | SERVER_CRYPTOGRAM | INITIAL_RMAC | CONFIRM_RMAC_I => controller(op, held, x),
         RECEIVE_CHALLENGE | RECEIVE_SCRYPT | WIPE => added(op, held, x),

@@ -1,9 +1,10 @@
 //! What is asked of sessions: calls in any order on any contents, conversations of two ends, and the limits of sealing.
 use crate::Compare;
 use crate::cases::{Random, TYPES, close, random_frame};
+use crate::rust::flags;
 use crate::session::Held;
 use crate::wire::*;
-use osdp::packet::{Address, ControlByte, CtrlFlags, Packet, Scb, ScsType, Sqn};
+use osdp::packet::{Address, ControlByte, Packet, Scb, ScsType, Sqn};
 use osdp::secure::cipher::{complement_icv, encrypt_data};
 use osdp::secure::crypto::{SessionKeys, client_cryptogram};
 use osdp::secure::mac::cbc_mac;
@@ -41,8 +42,7 @@ fn made(c: &mut Compare, op: u8, args: &[u8]) -> Held {
 /// A value, in one of four cases with one bit wrong.
 fn mostly(r: &mut Random, mut bytes: Vec<u8>) -> Vec<u8> {
     if r.below(4) == 0 {
-        let i = r.below(bytes.len());
-        bytes[i] ^= 1 << r.below(8);
+        r.spoil(&mut bytes);
     }
     bytes
 }
@@ -82,10 +82,7 @@ fn hidden(r: &mut Random, held: &Held) -> Vec<u8> {
     let mut all = encrypt_data(&held.keys().s_enc, &complement_icv(&held.chain()), &text);
     match r.below(8) {
         0 => all.truncate(r.below(all.len() + 1)),
-        1 => {
-            let i = r.below(all.len());
-            all[i] ^= 1 << r.below(8);
-        }
+        1 => r.spoil(&mut all),
         2 => all.truncate(all.len() - 16),
         _ => {}
     }
@@ -102,10 +99,7 @@ fn with_mac(r: &mut Random, held: &Held) -> Vec<u8> {
         r.bytes(n)
     };
     let block = if r.bool() { 0 } else { r.below(20) };
-    let mut flags = CtrlFlags::HAS_SCB;
-    if r.bool() {
-        flags = flags | CtrlFlags::USE_CRC;
-    }
+    let flags = flags(r.bool(), true);
     let packet = Packet {
         addr: Address::from_raw(r.byte()),
         ctrl: ControlByte::new(Sqn::new(r.byte() & 3).unwrap(), flags),
@@ -124,8 +118,7 @@ fn damaged(r: &mut Random, frame: &[u8]) -> Vec<u8> {
     match r.below(6) {
         0 => {
             let mut f = frame.to_vec();
-            let i = r.below(f.len());
-            f[i] ^= 1 << r.below(8);
+            r.spoil(&mut f);
             return f;
         }
         1 => return frame[..r.below(frame.len())].to_vec(),
@@ -136,10 +129,7 @@ fn damaged(r: &mut Random, frame: &[u8]) -> Vec<u8> {
         3 if body > 6 => f[6] = r.pick(&TYPES),
         // the last four bytes: where a MAC is due, it
         4 => f[body - 1 - r.below(4)] ^= 1 << r.below(8),
-        _ => {
-            let i = r.below(body);
-            f[i] ^= 1 << r.below(8);
-        }
+        _ => r.spoil(&mut f),
     }
     close(f, crc)
 }
@@ -186,12 +176,12 @@ fn with_room(r: &mut Random, held: &Held, op: u8) -> Vec<u8> {
         SEAL_DATA => {
             let n = length(r);
             let room = around(r, (n / 16 + 1) * 16);
-            [&(room as u32).to_le_bytes()[..], &r.bytes(n)].concat()
+            into(room, &r.bytes(n))
         }
         OPEN_DATA => {
             let data = hidden(r, held);
             let room = around(r, data.len());
-            [&(room as u32).to_le_bytes()[..], &data].concat()
+            into(room, &data)
         }
         SEAL => {
             let (encrypt, n) = (r.bool(), length(r));
@@ -209,7 +199,7 @@ fn with_room(r: &mut Random, held: &Held, op: u8) -> Vec<u8> {
                 frame = damaged(r, &frame);
             }
             let room = around(r, hidden_len(&frame));
-            unsealing(room, &frame)
+            into(room, &frame)
         }
     }
 }
@@ -221,11 +211,12 @@ fn sealed_len(encrypt: bool, n: usize) -> usize {
 fn sealing(r: &mut Random, room: usize, encrypt: bool, n: usize) -> Vec<u8> {
     let sqn = if r.below(16) == 0 { r.byte() } else { r.byte() & 3 };
     let asked = [r.byte(), sqn, r.bool() as u8, encrypt as u8, r.byte()];
-    [&(room as u32).to_le_bytes()[..], &asked, &r.bytes(n)].concat()
+    into(room, &[&asked[..], &r.bytes(n)].concat())
 }
 
-fn unsealing(room: usize, frame: &[u8]) -> Vec<u8> {
-    [&(room as u32).to_le_bytes()[..], frame].concat()
+/// The room of a buffer, then what else the call is handed.
+fn into(room: usize, rest: &[u8]) -> Vec<u8> {
+    [&(room as u32).to_le_bytes()[..], rest].concat()
 }
 
 /// Every call on sessions of any contents, in every state and at every end, also those that are none.
@@ -315,7 +306,7 @@ impl Ends {
     }
 
     fn take(&mut self, c: &mut Compare, to: usize, frame: &[u8], room: usize) -> u8 {
-        call(c, &mut self.0[to], UNSEAL, &unsealing(room, frame))[0]
+        call(c, &mut self.0[to], UNSEAL, &into(room, frame))[0]
     }
 
     /// Whether the two still have the same chain value.
@@ -428,9 +419,9 @@ fn order(c: &mut Compare, r: &mut Random) {
     let fresh = Ends::secured(c, r).0[0].clone();
     for n in [0, 65_519, 65_520, 65_521, 65_522] {
         for (sqn, encrypt) in [(0, true), (4, true), (255, true), (3, false), (4, false)] {
-            for (state, room) in [(2, 0u32), (3, 0), (3, 65_535), (2, 65_535)] {
+            for (state, room) in [(2, 0), (3, 0), (3, 65_535), (2, 65_535)] {
                 let asked = [5, sqn, 0, encrypt as u8, 0x60];
-                let x = [&room.to_le_bytes()[..], &asked, &r.bytes(n)].concat();
+                let x = into(room, &[&asked[..], &r.bytes(n)].concat());
                 call(c, &mut Held { state, ..fresh.clone() }, SEAL, &x);
             }
         }

@@ -75,6 +75,15 @@ pub const NAMES: [&str; 47] = [
     "session verify", "session keys", "last other mac", "session seal data", "session open data", "seal", "unseal", "payload test",
 ];
 
+/// Some bytes of a request or an answer.
+pub fn array<const N: usize>(bytes: &[u8], at: usize) -> [u8; N] {
+    bytes[at..at + N].try_into().unwrap()
+}
+/// A length, as it travels.
+pub fn u32_at(bytes: &[u8], at: usize) -> usize {
+    u32::from_le_bytes(array(bytes, at)) as usize
+}
+
 /// Bytes of an answer, put one after the other.
 #[derive(Default, Clone, PartialEq, Eq)]
 pub struct Out(pub Vec<u8>);
@@ -135,7 +144,7 @@ impl Ours {
     pub fn receive(&mut self) -> Vec<u8> {
         let mut head = [0; 4];
         self.from.read_exact(&mut head).expect("the proved side does not answer");
-        let mut all = vec![0; u32::from_le_bytes(head) as usize];
+        let mut all = vec![0; u32_at(&head, 0)];
         self.from.read_exact(&mut all).expect("the proved side does not answer");
         all
     }
