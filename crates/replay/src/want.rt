@@ -6,7 +6,7 @@ use ffi::CCiphered;
 use ffi::CKeys;
 
 // No place: no answer is as long.
-pub const NONE: usize = 0xffff_ffff_ffff_ffff;
+pub(crate) const NONE: usize = 0xffff_ffff_ffff_ffff;
 
 pub(crate) fn byte(want: &[u8], at: usize, x: u8) -> usize {
     if at < want.len() {
