@@ -1,5 +1,6 @@
 //! Paddings, the chain MAC and CBC (docs/RULES.md, 5 and 6).
 use crate::keys::sixteen;
+use crate::lent::{lend, lend_counted};
 use crate::raw;
 use crate::Refusal;
 
@@ -21,26 +22,18 @@ pub struct Chain {
     pub calls: usize,
 }
 
-/// The front of a buffer, as long as the answer says.
-pub(crate) fn front(c: raw::Ciphered, out: &mut [u8]) -> Counted<&[u8]> {
-    Counted {
-        answer: c.answer.told().map(|n| &out[..n]),
-        calls: c.calls,
-    }
-}
-
 /// Pads for the MAC (5.1) into the front of `out`, and shows it. A shorter buffer: `NoRoom`.
 pub fn pad_mac<'o>(data: &[u8], out: &'o mut [u8]) -> Result<&'o [u8], Refusal> {
-    let room = out.len();
-    let answer = unsafe { raw::malstrink_pad_mac(data.as_ptr(), data.len(), out.as_mut_ptr(), room) };
-    answer.told().map(|n| &out[..n])
+    lend(out, |to, room| unsafe {
+        raw::malstrink_pad_mac(data.as_ptr(), data.len(), to, room)
+    })
 }
 
 /// Pads for data (5.2) into the front of `out`, and shows it. A shorter buffer: `NoRoom`.
 pub fn pad_data<'o>(data: &[u8], out: &'o mut [u8]) -> Result<&'o [u8], Refusal> {
-    let room = out.len();
-    let answer = unsafe { raw::malstrink_pad_data(data.as_ptr(), data.len(), out.as_mut_ptr(), room) };
-    answer.told().map(|n| &out[..n])
+    lend(out, |to, room| unsafe {
+        raw::malstrink_pad_data(data.as_ptr(), data.len(), to, room)
+    })
 }
 
 /// What stands before the padding (5.3). Without one: `BadPadding`.
@@ -77,33 +70,15 @@ pub fn cbc_mac(input: &[u8], icv: &[u8; 16], s_mac1: &[u8; 16], s_mac2: &[u8; 16
 
 /// Pads and enciphers (6.4) into the front of `out`, and shows it. A shorter buffer: `NoRoom`.
 pub fn encrypt_data<'o>(s_enc: &[u8; 16], iv: &[u8; 16], data: &[u8], out: &'o mut [u8]) -> Counted<&'o [u8]> {
-    let room = out.len();
-    let c = unsafe {
-        raw::malstrink_encrypt_data(
-            sixteen(s_enc),
-            sixteen(iv),
-            data.as_ptr(),
-            data.len(),
-            out.as_mut_ptr(),
-            room,
-        )
-    };
-    front(c, out)
+    lend_counted(out, |to, room| unsafe {
+        raw::malstrink_encrypt_data(sixteen(s_enc), sixteen(iv), data.as_ptr(), data.len(), to, room)
+    })
 }
 
 /// Deciphers and takes the padding off (6.5), into the front of `out`, and shows the payload. Refuses by `NoRoom` where `out` is
 /// shorter than `data`, then by `BadPadding`, which zeroes that length of it.
 pub fn decrypt_data<'o>(s_enc: &[u8; 16], iv: &[u8; 16], data: &[u8], out: &'o mut [u8]) -> Counted<&'o [u8]> {
-    let room = out.len();
-    let c = unsafe {
-        raw::malstrink_decrypt_data(
-            sixteen(s_enc),
-            sixteen(iv),
-            data.as_ptr(),
-            data.len(),
-            out.as_mut_ptr(),
-            room,
-        )
-    };
-    front(c, out)
+    lend_counted(out, |to, room| unsafe {
+        raw::malstrink_decrypt_data(sixteen(s_enc), sixteen(iv), data.as_ptr(), data.len(), to, room)
+    })
 }

@@ -1,4 +1,5 @@
 //! Frames: their small kinds, reading and building (docs/RULES.md, 2 to 4).
+use crate::lent::lend;
 use crate::raw;
 use crate::Refusal;
 
@@ -307,37 +308,18 @@ pub fn build<'o>(packet: &Packet<'_>, mac: Option<[u8; 4]>, out: &'o mut [u8]) -
     let [b0, b1, b2, b3] = mac.unwrap_or([0; 4]);
     let given = mac.is_some();
     let mac = raw::Mac { given, b0, b1, b2, b3 };
-    let (data, room) = (packet.data, out.len());
-    let answer = unsafe {
-        raw::malstrink_build(
-            p,
-            block.as_ptr(),
-            block.len(),
-            data.as_ptr(),
-            data.len(),
-            mac,
-            out.as_mut_ptr(),
-            room,
-        )
-    };
-    answer.told().map(|n| &out[..n])
+    lend(out, |to, room| unsafe {
+        let data = packet.data;
+        raw::malstrink_build(p, block.as_ptr(), block.len(), data.as_ptr(), data.len(), mac, to, room)
+    })
 }
 
 /// Writes what a MAC is worked out over, from 53 hex to the end of data (4.5), and shows it. It wants room for the whole frame, and a
 /// block for which a MAC is due; else it refuses as [`build`] does.
 pub fn build_body<'o>(packet: &Packet<'_>, out: &'o mut [u8]) -> Result<&'o [u8], Refusal> {
     let (p, block) = fields(packet);
-    let (data, room) = (packet.data, out.len());
-    let answer = unsafe {
-        raw::malstrink_build_body(
-            p,
-            block.as_ptr(),
-            block.len(),
-            data.as_ptr(),
-            data.len(),
-            out.as_mut_ptr(),
-            room,
-        )
-    };
-    answer.told().map(|n| &out[..n])
+    lend(out, |to, room| unsafe {
+        let data = packet.data;
+        raw::malstrink_build_body(p, block.as_ptr(), block.len(), data.as_ptr(), data.len(), to, room)
+    })
 }

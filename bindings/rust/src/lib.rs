@@ -49,6 +49,7 @@
 mod cipher;
 mod frame;
 mod keys;
+mod lent;
 mod raw;
 mod refusal;
 mod session;

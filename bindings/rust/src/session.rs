@@ -1,9 +1,9 @@
 //! One session of the channel, at either end (docs/RULES.md, 7 and 8).
-use crate::cipher::{front, Counted};
 use crate::keys::{eight, sixteen};
+use crate::lent::lend_counted;
 use crate::raw;
 use crate::wipe::wipe;
-use crate::{Address, Refusal, SessionKeys, Sqn};
+use crate::{Address, Counted, Refusal, SessionKeys, Sqn};
 use core::fmt;
 
 /// Which end of the line a session is.
@@ -93,6 +93,10 @@ pub struct Session {
     raw: raw::Session,
 }
 
+fn shown(b: raw::BlockAnswer) -> Result<[u8; 16], Refusal> {
+    b.answer.done().map(|()| b.block)
+}
+
 impl Session {
     /// The controller's end, Disconnected, with a base key.
     pub fn new(scbk: &[u8; 16]) -> Session {
@@ -173,14 +177,12 @@ impl Session {
 
     /// Controller, Cryptogrammed: the server cryptogram to be sent.
     pub fn server_cryptogram(&self) -> Result<[u8; 16], Refusal> {
-        let b = unsafe { raw::malstrink_session_server_cryptogram(self.raw) };
-        b.answer.done().map(|()| b.block)
+        shown(unsafe { raw::malstrink_session_server_cryptogram(self.raw) })
     }
 
     /// Controller, Cryptogrammed: the first chain value, which the reader has to send.
     pub fn initial_rmac(&self) -> Result<[u8; 16], Refusal> {
-        let b = unsafe { raw::malstrink_session_initial_rmac(self.raw) };
-        b.answer.done().map(|()| b.block)
+        shown(unsafe { raw::malstrink_session_initial_rmac(self.raw) })
     }
 
     /// Controller, Cryptogrammed: takes the reader's first chain value, and is Secure. A wrong one: `BadCryptogram`, and the session
@@ -231,24 +233,21 @@ impl Session {
 
     /// The chain value.
     pub fn last_other_mac(&self) -> Result<[u8; 16], Refusal> {
-        let b = unsafe { raw::malstrink_session_last_other_mac(self.raw) };
-        b.answer.done().map(|()| b.block)
+        shown(unsafe { raw::malstrink_session_last_other_mac(self.raw) })
     }
 
     /// Pads and enciphers from the complement of the chain value (6.6), as [`crate::encrypt_data`] does.
     pub fn seal_data<'o>(&self, data: &[u8], out: &'o mut [u8]) -> Counted<&'o [u8]> {
-        let room = out.len();
-        let c =
-            unsafe { raw::malstrink_session_seal_data(self.raw, data.as_ptr(), data.len(), out.as_mut_ptr(), room) };
-        front(c, out)
+        lend_counted(out, |to, room| unsafe {
+            raw::malstrink_session_seal_data(self.raw, data.as_ptr(), data.len(), to, room)
+        })
     }
 
     /// Deciphers from the complement of the chain value (6.6), as [`crate::decrypt_data`] does.
     pub fn open_data<'o>(&self, data: &[u8], out: &'o mut [u8]) -> Counted<&'o [u8]> {
-        let room = out.len();
-        let c =
-            unsafe { raw::malstrink_session_open_data(self.raw, data.as_ptr(), data.len(), out.as_mut_ptr(), room) };
-        front(c, out)
+        lend_counted(out, |to, room| unsafe {
+            raw::malstrink_session_open_data(self.raw, data.as_ptr(), data.len(), to, room)
+        })
     }
 
     /// Seals a message into a frame at the front of `out`, and shows the frame (8.1). The chain value becomes its full MAC. Refuses by
