@@ -51,6 +51,7 @@ mod frame;
 mod keys;
 mod lent;
 mod raw;
+mod records;
 mod refusal;
 mod session;
 mod wipe;

@@ -4,6 +4,9 @@
 mod clock;
 mod openssl;
 mod ours;
+#[expect(dead_code, reason = "it also has the records of calls that are not timed")]
+#[path = "../../../bindings/rust/src/records.rs"]
+mod records;
 mod rows;
 mod sealed;
 mod table;

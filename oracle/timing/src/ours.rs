@@ -1,90 +1,12 @@
 //! The proved calls, by the prototypes that include/malstrink.h comes down to on x86-64: an answer in memory is written where the
 //! first argument says, and a struct of up to 16 bytes travels as one or two numbers. Written so, they hold on other processors too,
 //! where the module is compiled anew; what x86-64 passes on the stack is there passed by its place.
+//! The records are those of the Rust bindings.
+pub use crate::records::{Answer, Chain, Ciphered, Keys, Parsed, Sealed, Session, Unsealed};
+use crate::records::{Bytes16, Mac};
 use std::mem::MaybeUninit;
 
-#[repr(C)]
-#[derive(Clone, Copy, PartialEq, Debug)]
-pub struct Answer {
-    pub refusal: u8,
-    pub a: usize,
-    pub b: usize,
-}
-
-#[repr(C)]
-#[derive(Clone, Copy, PartialEq, Debug)]
-pub struct Parsed {
-    pub answer: Answer,
-    pub addr: u8,
-    pub sqn: u8,
-    pub crc: bool,
-    pub block: bool,
-    pub block_type: u8,
-    pub block_start: usize,
-    pub block_len: usize,
-    pub code: u8,
-    pub data_start: usize,
-    pub data_len: usize,
-    pub mac_start: usize,
-    pub trailer_is_crc: bool,
-    pub trailer: u16,
-    pub len: usize,
-}
-
-#[repr(C)]
-#[derive(Clone, Copy, PartialEq, Debug)]
-pub struct Chain {
-    pub full: [u8; 16],
-    pub calls: usize,
-}
-
-#[repr(C)]
-#[derive(Clone, Copy, PartialEq, Debug)]
-pub struct Ciphered {
-    pub answer: Answer,
-    pub calls: usize,
-}
-
-/// Its keys are S-ENC, S-MAC1 and S-MAC2.
-#[repr(C)]
-#[derive(Clone, Copy, PartialEq, Debug)]
-pub struct Session {
-    pub end: u8,
-    pub state: u8,
-    pub scbk: [u8; 16],
-    pub rnd_a: [u8; 8],
-    pub rnd_b: [u8; 8],
-    pub cuid: [u8; 8],
-    pub keys: [[u8; 16]; 3],
-    pub chain: [u8; 16],
-}
-
-#[repr(C)]
-#[derive(Clone, Copy)]
-pub struct Sealed {
-    pub answer: Answer,
-    pub calls: usize,
-    pub session: Session,
-}
-
-#[repr(C)]
-#[derive(Clone, Copy)]
-pub struct Unsealed {
-    pub answer: Answer,
-    pub in_work: bool,
-    pub start: usize,
-    pub len: usize,
-    pub calls: usize,
-    pub session: Session,
-}
-
-#[repr(C)]
-#[derive(Clone, Copy)]
-struct Bytes16([u8; 16]);
-/// Not given.
-#[repr(C)]
-#[derive(Clone, Copy)]
-struct Mac([u8; 5]);
+/// A struct of 16 bytes, as it comes back in two numbers.
 #[repr(C)]
 #[derive(Clone, Copy)]
 struct Pair(u64, u64);
@@ -147,7 +69,7 @@ pub fn parse(frame: &[u8]) -> Parsed {
 /// A packet without block and MAC.
 pub fn build(addr: u8, sqn: u8, crc: bool, code: u8, data: &[u8], out: &mut [u8]) -> Answer {
     let packet = u64::from_le_bytes([addr, sqn, crc.into(), 0, 0, code, 0, 0]);
-    let mac = Mac([0; 5]);
+    let mac = Mac { given: false, b0: 0, b1: 0, b2: 0, b3: 0 };
     told(|to| unsafe { malstrink_build(to, packet, [].as_ptr(), 0, data.as_ptr(), data.len(), stacked!(mac), out.as_mut_ptr(), out.len()) })
 }
 
@@ -163,7 +85,7 @@ pub fn aes_decrypt(key: &[u8; 16], block: &[u8; 16]) -> [u8; 16] {
 
 pub fn cbc_mac(input: &[u8], icv: &[u8; 16], s_mac1: &[u8; 16], s_mac2: &[u8; 16]) -> Chain {
     let (v0, v1) = halves(icv);
-    let (k1, k2) = (Bytes16(*s_mac1), Bytes16(*s_mac2));
+    let (k1, k2) = (Bytes16 { bytes: *s_mac1 }, Bytes16 { bytes: *s_mac2 });
     told(|to| unsafe { malstrink_cbc_mac(to, input.as_ptr(), input.len(), v0, v1, stacked!(k1), stacked!(k2)) })
 }
 

@@ -31,14 +31,18 @@ pub fn with_commas(n: usize) -> String {
     if n < 1000 { n.to_string() } else { format!("{},{:03}", n / 1000, n % 1000) }
 }
 
-/// The Rust over software AES, or over the processor's.
-fn rust<'a, R>(instructions: bool, call: impl FnMut() -> R + 'a) -> Side<'a> {
-    osdp::use_instructions(instructions);
-    let mut timed = side(call);
+/// A side of the Rust, over software AES or over the processor's.
+pub fn over<'a>(instructions: bool, mut side: impl FnMut() -> f64 + 'a) -> Side<'a> {
     Box::new(move || {
         osdp::use_instructions(instructions);
-        timed()
+        side()
     })
+}
+
+fn rust<'a, R>(instructions: bool, call: impl FnMut() -> R + 'a) -> Side<'a> {
+    // how many calls make a round is found here, over the same AES
+    osdp::use_instructions(instructions);
+    over(instructions, side(call))
 }
 
 /// Ours, the Rust's, and the Rust's over the processor's AES where it has one.

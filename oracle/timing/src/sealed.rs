@@ -2,7 +2,7 @@
 //! conversation. The Rust's side of unsealing is its parse and its unseal, which ours does in one call.
 use crate::clock::{Side, least, round};
 use crate::ours;
-use crate::rows::{Times, bytes};
+use crate::rows::{Times, bytes, over};
 use osdp::packet::{Address, ParsedPacket, Sqn};
 use osdp::reply::CCrypt;
 use osdp::secure::crypto::{SessionKeys, client_cryptogram};
@@ -31,7 +31,7 @@ fn theirs() -> Session<Secure> {
 /// The same, as the C interface has it.
 fn session(s: &Session<Secure>) -> ours::Session {
     let k = s.keys();
-    let keys = [k.s_enc, k.s_mac1, k.s_mac2];
+    let keys = ours::Keys { s_enc: k.s_enc, s_mac1: k.s_mac1, s_mac2: k.s_mac2 };
     ours::Session { end: 0, state: 3, scbk: SCBK, rnd_a: RND_A, rnd_b: RND_B, cuid: CUID, keys, chain: *s.last_other_mac() }
 }
 
@@ -50,15 +50,9 @@ fn unseal_one(s: &mut Session<Secure>, frame: &[u8]) -> Vec<u8> {
 }
 
 fn timed<'a>(ours: impl FnMut() -> f64 + 'a, theirs: impl Fn() -> f64 + Copy + 'a) -> Times {
-    let switched = |on: bool| {
-        move || {
-            osdp::use_instructions(on);
-            theirs()
-        }
-    };
-    let mut sides: Vec<Side> = vec![Box::new(ours), Box::new(switched(false))];
+    let mut sides: Vec<Side> = vec![Box::new(ours), over(false, theirs)];
     if osdp::has_instructions() {
-        sides.push(Box::new(switched(true)));
+        sides.push(over(true, theirs));
     }
     least(sides)
 }
@@ -73,7 +67,7 @@ pub fn sealing(n: usize, encrypt: bool) -> Times {
         let r = ours::seal(&b, [ADDR, SQN, 0, encrypt.into(), CODE], &data, &mut out);
         assert_eq!(r.answer, ours::Answer { refusal: 0, a: frame.len(), b: 0 });
         assert_eq!(out, frame);
-        assert_eq!(r.session, session(&a));
+        assert!(r.session == session(&a), "the sessions differ");
         b = r.session;
     }
     let ours = || {
@@ -99,7 +93,7 @@ pub fn unsealing(n: usize, encrypt: bool) -> Times {
         assert_eq!(r.answer, ours::Answer { refusal: 0, a: 0, b: 0 });
         let place = if r.in_work { &work } else { f };
         assert_eq!(place[r.start..r.start + r.len], data);
-        assert_eq!(r.session, session(&a));
+        assert!(r.session == session(&a), "the sessions differ");
         b = r.session;
     }
     let ours = || {
