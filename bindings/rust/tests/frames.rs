@@ -38,51 +38,30 @@ fn small_kinds() {
     }
 }
 
+fn truncated<T>(have: usize, need: usize) -> Result<T, Refusal> {
+    Err(Refusal::Truncated { have, need })
+}
+
+fn length<T>(n: usize) -> Result<T, Refusal> {
+    Err(Refusal::BadLength { declared: n, actual: n })
+}
+
+/// A frame of nine bytes whose control byte says that a block follows.
+fn with_block(end: [u8; 4]) -> Vec<u8> {
+    [&[0x53, 5, 9, 0, 8][..], &end].concat()
+}
+
 #[test]
 fn reading() {
-    let truncated = |have, need| Err(Refusal::Truncated { have, need });
-    let length = |n| Err(Refusal::BadLength { declared: n, actual: n });
     let p = parse(&POLL).unwrap();
     assert_eq!((p.packet.addr, p.packet.code, p.len), (Address::from_raw(5), 0x60, 8));
     assert_eq!((p.packet.block, p.packet.data, p.mac), (None, &[][..], None));
     assert_eq!(p.trailer, Trailer::Crc(0x89BC));
-    assert_eq!(parse(&POLL[..7]), truncated(7, 8));
-    assert_eq!(parse(&[]), truncated(0, 5));
-    let mut wrong = POLL;
-    wrong[7] = 0x88;
-    assert_eq!(
-        parse(&wrong),
-        Err(Refusal::BadCrc {
-            got: 0x88BC,
-            want: 0x89BC
-        })
-    );
     assert_eq!(
         parse(&[0x53, 5, 7, 0, 0, 0x60, 0x41]).map(|p| p.trailer),
         Ok(Trailer::Checksum(0x41))
     );
-    assert_eq!(
-        parse(&[0x53, 5, 7, 0, 0, 0x60, 0x40]),
-        Err(Refusal::BadChecksum { got: 0x40, want: 0x41 })
-    );
-    assert_eq!(parse(&[0x53, 5, 0, 0, 4]), length(0));
-    assert_eq!(
-        parse(&[0x53, 5, 8, 0, 0x14, 0x60, 0xBC, 0x89]),
-        Err(Refusal::BadControlByte(0x14))
-    );
-    assert_eq!(parse(&[0x54, 5, 8, 0, 4, 0x60, 0xBC, 0x89]), Err(Refusal::BadSom(0x54)));
-    let with = |end: [u8; 4]| [&[0x53, 5, 9, 0, 8][..], &end].concat();
-    assert_eq!(
-        parse(&with([0x01, 0x15, 0x60, 0])),
-        Err(Refusal::BadSecurityBlockLength(0x15))
-    );
-    assert_eq!(parse(&with([0x05, 0x15, 0x60, 0])), truncated(4, 5));
-    assert_eq!(
-        parse(&with([0x02, 0x19, 0x60, 0])),
-        Err(Refusal::BadSecurityBlock(0x19))
-    );
-    assert_eq!(parse(&with([0x02, 0x15, 0x60, 0])), length(9));
-    let frame = with([0x02, 0x11, 0x60, 0x24]);
+    let frame = with_block([0x02, 0x11, 0x60, 0x24]);
     assert_eq!(
         parse(&frame).unwrap().packet.block,
         Some(Block {
@@ -97,14 +76,48 @@ fn reading() {
             data: &[7, 8]
         })
     );
-    assert_eq!(Block::read(&[1]), Err(Refusal::Truncated { have: 1, need: 2 }));
     let head = Head::read(&POLL[..5]).unwrap();
     assert_eq!((head.addr.as_byte(), head.len, head.control.encode()), (5, 8, 4));
 }
 
 #[test]
-fn building() {
-    let sealed = Packet {
+fn refused_reading() {
+    assert_eq!(parse(&POLL[..7]), truncated(7, 8));
+    assert_eq!(parse(&[]), truncated(0, 5));
+    let mut wrong = POLL;
+    wrong[7] = 0x88;
+    assert_eq!(
+        parse(&wrong),
+        Err(Refusal::BadCrc {
+            got: 0x88BC,
+            want: 0x89BC
+        })
+    );
+    assert_eq!(
+        parse(&[0x53, 5, 7, 0, 0, 0x60, 0x40]),
+        Err(Refusal::BadChecksum { got: 0x40, want: 0x41 })
+    );
+    assert_eq!(parse(&[0x53, 5, 0, 0, 4]), length(0));
+    assert_eq!(
+        parse(&[0x53, 5, 8, 0, 0x14, 0x60, 0xBC, 0x89]),
+        Err(Refusal::BadControlByte(0x14))
+    );
+    assert_eq!(parse(&[0x54, 5, 8, 0, 4, 0x60, 0xBC, 0x89]), Err(Refusal::BadSom(0x54)));
+    assert_eq!(
+        parse(&with_block([0x01, 0x15, 0x60, 0])),
+        Err(Refusal::BadSecurityBlockLength(0x15))
+    );
+    assert_eq!(parse(&with_block([0x05, 0x15, 0x60, 0])), truncated(4, 5));
+    assert_eq!(
+        parse(&with_block([0x02, 0x19, 0x60, 0])),
+        Err(Refusal::BadSecurityBlock(0x19))
+    );
+    assert_eq!(parse(&with_block([0x02, 0x15, 0x60, 0])), length(9));
+    assert_eq!(Block::read(&[1]), Err(Refusal::Truncated { have: 1, need: 2 }));
+}
+
+fn sealed() -> Packet<'static> {
+    Packet {
         addr: Address::reply(5).unwrap(),
         control: ControlByte {
             sqn: Sqn::new(2).unwrap(),
@@ -117,7 +130,12 @@ fn building() {
         }),
         code: 0x40,
         data: b"payload",
-    };
+    }
+}
+
+#[test]
+fn building() {
+    let sealed = sealed();
     let mut out = [0xEE; 40];
     let body = build_body(&sealed, &mut out).unwrap().to_vec();
     assert_eq!(
@@ -130,7 +148,12 @@ fn building() {
     let p = parse(&frame).unwrap();
     assert_eq!((p.packet, p.mac), (sealed, Some([9, 8, 7, 6])));
     assert_eq!(build(&p.packet, p.mac, &mut out), Ok(&frame[..]));
+}
 
+#[test]
+fn refused_building() {
+    let sealed = sealed();
+    let mut out = [0xEE; 40];
     assert_eq!(build(&sealed, None, &mut out), Err(Refusal::BadMac));
     assert_eq!(
         build(&sealed, Some([0; 4]), &mut out[..23]),
@@ -151,6 +174,12 @@ fn building() {
         build(&Packet { block, ..sealed }, None, &mut out),
         Err(Refusal::BlockTooLong(254))
     );
+    assert_eq!(out, [0xEE; 40]);
+}
+
+#[test]
+fn limits_of_building() {
+    let sealed = sealed();
     let data = vec![0; 65_527];
     let packet = Packet {
         control: ControlByte {
@@ -163,7 +192,7 @@ fn building() {
     };
     assert_eq!(build(&packet, None, &mut vec![0; 70_000]).map(<[u8]>::len), Ok(65_535));
     let data = vec![0; 65_528];
-    let too_long = build(&Packet { data: &data, ..packet }, None, &mut out).map(<[u8]>::len);
+    let too_long = build(&Packet { data: &data, ..packet }, None, &mut [0; 40]).map(<[u8]>::len);
     assert_eq!(
         too_long,
         Err(Refusal::BufferOverflow {
@@ -244,10 +273,24 @@ fn paddings() {
     assert_eq!(unpad_data(&[0x80, 0x41]), Err(Refusal::BadPadding));
 }
 
+/// The key and the start value of SP 800-38A's examples.
+fn key_and_start() -> ([u8; 16], [u8; 16]) {
+    (
+        hex("2b7e151628aed2a6abf7158809cf4f3c"),
+        hex("000102030405060708090a0b0c0d0e0f"),
+    )
+}
+
+fn refused<T>(refusal: Refusal, calls: usize) -> Counted<T> {
+    Counted {
+        answer: Err(refusal),
+        calls,
+    }
+}
+
 #[test]
-fn mac_and_cbc() {
-    let key = hex("2b7e151628aed2a6abf7158809cf4f3c");
-    let iv = hex("000102030405060708090a0b0c0d0e0f");
+fn mac() {
+    let (key, iv) = key_and_start();
     assert_eq!(cbc_mac(&[], &iv, &key, &iv), Chain { full: iv, calls: 0 });
     let one = cbc_mac(&[0x41], &[0; 16], &iv, &key);
     assert_eq!(
@@ -255,7 +298,11 @@ fn mac_and_cbc() {
         (aes_encrypt(&key, &hex("41800000000000000000000000000000")), 1)
     );
     assert_eq!(complement_icv(&iv), hex("fffefdfcfbfaf9f8f7f6f5f4f3f2f1f0"));
+}
 
+#[test]
+fn cbc() {
+    let (key, iv) = key_and_start();
     // SP 800-38A, F.2.1 and F.2.2: the first two blocks; the padding adds a third
     let plain: [u8; 32] = hex("6bc1bee22e409f96e93d7e117393172aae2d8a571e03ac9c9eb76fac45af8e51");
     let hidden: [u8; 32] = hex("7649abac8119b246cee98e9b12e9197d5086cb9b507219ee95db113a917678b2");
@@ -274,28 +321,10 @@ fn mac_and_cbc() {
         }
     );
     let junk = decrypt_data(&key, &iv, &out[..32], &mut back);
-    assert_eq!(
-        junk,
-        Counted {
-            answer: Err(Refusal::BadPadding),
-            calls: 2
-        }
-    );
+    assert_eq!(junk, refused(Refusal::BadPadding, 2));
     assert_eq!((&back[..32], &back[48..]), (&[0; 32][..], &[0xEE; 16][..]));
     let ragged = decrypt_data(&key, &iv, &out[..17], &mut back);
-    assert_eq!(
-        ragged,
-        Counted {
-            answer: Err(Refusal::BadPadding),
-            calls: 0
-        }
-    );
+    assert_eq!(ragged, refused(Refusal::BadPadding, 0));
     let short = encrypt_data(&key, &iv, &plain, &mut out[..47]);
-    assert_eq!(
-        short,
-        Counted {
-            answer: Err(Refusal::NoRoom { need: 48, have: 47 }),
-            calls: 0
-        }
-    );
+    assert_eq!(short, refused(Refusal::NoRoom { need: 48, have: 47 }, 0));
 }

@@ -90,11 +90,8 @@ fn a_refused_frame_moves_nothing() {
     let chain = r.last_other_mac();
     let short = r.unseal(frame, &mut work[..15]);
     assert_eq!(
-        short,
-        Counted {
-            answer: Err(Refusal::NoRoom { need: 16, have: 15 }),
-            calls: 0
-        }
+        (short.answer, short.calls),
+        (Err(Refusal::NoRoom { need: 16, have: 15 }), 0)
     );
     assert_eq!(work, [0xEE; 64]);
     assert_eq!(

@@ -4,8 +4,8 @@
 //! each field stands in it is found out once, from a session that was led through its own calls (`Places::find`), and from then on a
 //! session is put together from its bytes before a call and taken apart after it. So its calls can be tried on any contents.
 //!
-//! The Rust has no reader's end. What 01 says of it is said with the Rust's own functions for keys and cryptograms, and a reader's
-//! session that is Secure is the Rust's `Session<Secure>`, which does not know its end. The wipe is 01's alone.
+//! The Rust has no reader's end. What the paper says of it is said with the Rust's own functions for keys and cryptograms, and a reader's
+//! session that is Secure is the Rust's `Session<Secure>`, which does not know its end. The wipe is the paper's alone.
 use crate::rust::{Answer, NO_ROOM, SQN_ABOVE_3, at, calls, deciphered, into_buffer, number};
 use crate::wire::*;
 use osdp::error::Error;
@@ -225,7 +225,7 @@ fn controller(op: u8, held: Held, x: &[u8]) -> Answer {
     }
 }
 
-/// The handshake at the reader's end, and the wipe, as 01 has them.
+/// The handshake at the reader's end, and the wipe, as the paper has them.
 fn added(op: u8, mut held: Held, x: &[u8]) -> Answer {
     match op {
         RECEIVE_CHALLENGE if held.at(1, 0) => {
@@ -383,7 +383,7 @@ fn unseal(held: &Held, room: usize, frame: &[u8]) -> Answer {
     }
 }
 
-/// The Rust answers a vector where ours answers a place, so this is 01's alone.
+/// The Rust answers a vector where ours answers a place, so this is the paper's alone.
 fn payload_test(x: &[u8]) -> Answer {
     let (start, len) = (u64::from_le_bytes(array(x, 1)) as u128, u64::from_le_bytes(array(x, 9)) as u128);
     let frame = u32_at(x, 17);
