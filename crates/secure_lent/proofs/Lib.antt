@@ -1,10 +1,6 @@
 pub mod Lending
 pub mod Results
-pub mod Alone
-pub mod OneArray
-pub mod TwoArrays
-pub mod ThreeArrays
-pub mod Slice
-pub mod SliceArray
-pub mod Slices
-pub mod Sealing
+pub mod Locals
+pub mod Passed
+pub mod Passing
+pub mod Wrapper
