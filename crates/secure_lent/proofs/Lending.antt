@@ -1,5 +1,6 @@
 -- What every call on a session that is lent does, whatever it is passed beside the session and whatever it answers.
---     Datum R τ        plain data: its one machine value, that it is of the MIR type τ, and that what it owns is had for nothing
+--     Datum R τ        plain data: its one machine value, and that it is of the MIR type τ
+--     Result           what a call by value returns, and where the session and the answer stand in it
 --     takes            the session's borrow is opened, and the session is copied to a local
 --     stores           a session is stored where the lent one was, and the borrow is closed at it
 -- The rest of the context, and how the locals are numbered, is the caller's. Assumes nothing.
@@ -26,8 +27,8 @@ use denote.Laws.{Is, Tells, Makes, shows}
 use denote.Memory.{mem, pointee}
 use denote.Builtin.{Array, u8, bool}
 use denote.Slice.{sliceName}
-use denote.Plain.{uint-tells, uint-lawful, uint-makes, bool-tells, bool-lawful, bool-makes}
-use denote.Array.{arrayVal, array-lawful, array-makes}
+use denote.Plain.{uint-tells, uint-lawful, bool-tells, bool-lawful}
+use denote.Array.{arrayVal, array-lawful}
 use denote.Struct.Field.{u8-field}
 use denote.Struct.Laws.{array-laws, u8-laws}
 use denote.Steps.{only, opens, closes, owned, peeks}
@@ -35,8 +36,6 @@ use denote.Triple.Statement.{Contract, Triple}
 use denote.Triple.Call.{calls-at}
 use denote.Struct.Steps.{spelt}
 use denote.Struct.Laws as LL
-use denote.Struct.Declared as LD
-use denote.Enum.Laws as EL
 use Rattle.secure_session.specs.declared.session.Session.{Session}
 use Rattle.secure_session.proofs.session.Session as T
 use Rattle.secure_session.proofs.session.Session.Laws as T′
@@ -46,20 +45,18 @@ pub record Datum (R : RattleType) (τ : Ty) : Type 2 where
   pub low : R .Denot → Val
   pub tells : Tells R (Is R) (λ x. low x ∷ [])
   pub typed : {M : Type 1} (𝓤 : URA M) (H : Heap 𝓤) (A : Atoms 𝓤) → Given 𝓤 H A → (x : R .Denot) → Is R x (low x ∷ []) → T (hasTy τ (low x)) × WT (low x)
-  pub makes : {M : Type 1} (𝓤 : URA M) (H : Heap 𝓤) (A : Atoms 𝓤) → Given 𝓤 H A → Makes 𝓤 H A R (Is R)
 
 abbrev pub a-byte : Datum u8 (tyInt w8)
-a-byte = record { low = vint w8; tells = uint-tells w8; typed = λ 𝓤 H A W x p. uint-lawful 𝓤 H A W w8 .typed x _ p .0; makes = λ 𝓤 H A W. uint-makes 𝓤 H A W w8 }
+a-byte = record { low = vint w8; tells = uint-tells w8; typed = λ 𝓤 H A W x p. uint-lawful 𝓤 H A W w8 .typed x _ p .0 }
 
 abbrev pub a-bool : Datum bool tyBool
-a-bool = record { low = vbool; tells = bool-tells; typed = λ 𝓤 H A W x p. bool-lawful 𝓤 H A W .typed x _ p .0; makes = λ 𝓤 H A W. bool-makes 𝓤 H A W }
+a-bool = record { low = vbool; tells = bool-tells; typed = λ 𝓤 H A W x p. bool-lawful 𝓤 H A W .typed x _ p .0 }
 
 abbrev pub bytes : (n : ℕ) → Datum (Array u8 tt n) (tyArray (tyInt w8) n)
 bytes n = record {
   low = λ xs. arrayVal (map (vint w8) xs);
   tells = array-laws u8-field u8-laws n .tells;
   typed = λ 𝓤 H A W x p. array-lawful 𝓤 H A W u8 (uint-lawful 𝓤 H A W w8) n .typed x _ p .0;
-  makes = λ 𝓤 H A W. array-makes 𝓤 H A W u8 (uint-makes 𝓤 H A W w8) n;
 }
 
 -- what a call by value returns, a session and an answer in one: S, of the MIR type σ, and the answer alone: R, of the MIR type ρ
@@ -72,6 +69,8 @@ pub record Result (S R : RattleType) (σ ρ : Ty) : Type 2 where
   pub apart : (r : S .Denot) → both (answer r) (session r) ≡ r
   pub session-is : (r : S .Denot) → Is S r (whole .low r ∷ []) → Is T.the-row (session r) (T′.lowered (session r) ∷ [])
   pub answer-is : (r : S .Denot) → Is S r (whole .low r ∷ []) → Is R (answer r) (part .low (answer r) ∷ [])
+  -- what the answer owns is had for nothing
+  pub makes : {M : Type 1} (𝓤 : URA M) (H : Heap 𝓤) (A : Atoms 𝓤) → Given 𝓤 H A → Makes 𝓤 H A R (Is R)
   -- where the two stand, in a local that holds the whole, and what is read there
   pub session-at : ℕ → Operand
   pub answer-at : ℕ → RValue

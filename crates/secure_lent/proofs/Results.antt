@@ -40,7 +40,6 @@ a-session = record {
   low = T′.lowered;
   tells = T′.lowers .val-is;
   typed = λ 𝓤 H A W x p. LL.lawful T.the-type T′.the-laws 𝓤 H A W .typed x _ p .0;
-  makes = λ 𝓤 H A W. LL.makes T.the-type T′.the-plain 𝓤 H A;
 }
 
 abbrev pub no-answer : Datum unit tyUnit
@@ -48,7 +47,6 @@ no-answer = record {
   low = λ _. vunit;
   tells = nothing-tells;
   typed = λ 𝓤 H A W x p. nothing-lawful 𝓤 H A W .typed x _ p .0;
-  makes = λ 𝓤 H A W. nothing-makes 𝓤 H A W;
 }
 
 abbrev pub session-only : Result T.the-row unit T′.mir tyUnit
@@ -61,6 +59,7 @@ session-only = record {
   apart = λ s. refl;
   session-is = λ s is. is;
   answer-is = λ s is. refl;
+  makes = λ 𝓤 H A W. nothing-makes 𝓤 H A W;
   session-at = λ i. copy (place i []);
   answer-at = λ i. rvOpd opdUnit;
   reads-session = λ t s n e c. load t (near t e (stop t)) (look-in t n c);
@@ -73,7 +72,6 @@ an-outcome = record {
   low = O′.lowered;
   tells = O′.lowers .val-is;
   typed = λ 𝓤 H A W x p. EL.lawful O.the-type O′.the-laws 𝓤 H A W tt .typed x _ p .0;
-  makes = λ 𝓤 H A W. EL.makes O.the-type O′.the-plain 𝓤 H A;
 }
 
 abbrev pub with-outcome : Result S.the-row O.the-row S′.mir O′.mir
@@ -82,7 +80,6 @@ with-outcome = record {
     low = S′.lowered;
     tells = S′.lowers .val-is;
     typed = λ 𝓤 H A W x p. LL.lawful S.the-type S′.the-laws 𝓤 H A W .typed x _ p .0;
-    makes = λ 𝓤 H A W. LL.makes S.the-type S′.the-plain 𝓤 H A;
   };
   part = an-outcome;
   session = λ r. r .session;
@@ -91,6 +88,7 @@ with-outcome = record {
   apart = λ r. refl;
   session-is = λ r is. subst (Is T.the-row (r .session)) (T′.lowers .val-is (r .session) _ (LL.owed S.the-type S′.the-laws r _ is .1 .0)) (LL.owed S.the-type S′.the-laws r _ is .1 .0);
   answer-is = λ r is. subst (Is O.the-row (r .outcome)) (O′.lowers .val-is (r .outcome) _ (LL.owed S.the-type S′.the-laws r _ is .0)) (LL.owed S.the-type S′.the-laws r _ is .0);
+  makes = λ 𝓤 H A W. EL.makes O.the-type O′.the-plain 𝓤 H A;
   session-at = λ i. copy (place i (field 1 ∷ []));
   answer-at = λ i. rvOpd (copy (place i (field 0 ∷ [])));
   reads-session = λ t r n e c. load t (near t e (fld t refl (stop t))) (look-in t n (sub t 1 refl c));
@@ -103,7 +101,6 @@ a-block-answer = record {
   low = N′.lowered;
   tells = N′.lowers .val-is;
   typed = λ 𝓤 H A W x p. LL.lawful N.the-type N′.the-laws 𝓤 H A W .typed x _ p .0;
-  makes = λ 𝓤 H A W. LL.makes N.the-type N′.the-plain 𝓤 H A;
 }
 
 pub block-answer-is : (r : SteppedBlock) → Is B.the-row r (B′.lowered r ∷ []) → Is N.the-row (record { outcome = r .outcome; block = r .block }) (N′.lowered (record { outcome = r .outcome; block = r .block }) ∷ [])
@@ -118,7 +115,6 @@ with-block = record {
     low = B′.lowered;
     tells = B′.lowers .val-is;
     typed = λ 𝓤 H A W x p. LL.lawful B.the-type B′.the-laws 𝓤 H A W .typed x _ p .0;
-    makes = λ 𝓤 H A W. LL.makes B.the-type B′.the-plain 𝓤 H A;
   };
   part = a-block-answer;
   session = λ r. r .session;
@@ -127,6 +123,7 @@ with-block = record {
   apart = λ r. refl;
   session-is = λ r is. subst (Is T.the-row (r .session)) (T′.lowers .val-is (r .session) _ (LL.owed B.the-type B′.the-laws r _ is .1 .1 .0)) (LL.owed B.the-type B′.the-laws r _ is .1 .1 .0);
   answer-is = block-answer-is;
+  makes = λ 𝓤 H A W. LL.makes N.the-type N′.the-plain 𝓤 H A;
   session-at = λ i. copy (place i (field 2 ∷ []));
   answer-at = λ i. aggregate (copy (place i (field 0 ∷ [])) ∷ copy (place i (field 1 ∷ [])) ∷ []);
   reads-session = λ t r n e c. load t (near t e (fld t refl (stop t))) (look-in t n (sub t 2 refl c));
@@ -139,7 +136,6 @@ a-sealed-answer = record {
   low = L′.lowered;
   tells = L′.lowers .val-is;
   typed = λ 𝓤 H A W x p. LL.lawful L.the-type L′.the-laws 𝓤 H A W .typed x _ p .0;
-  makes = λ 𝓤 H A W. LL.makes L.the-type L′.the-plain 𝓤 H A;
 }
 
 pub sealed-answer-is : (r : Sealed) → Is D.the-row r (D′.lowered r ∷ []) → Is L.the-row (record { answer = r .answer; calls = r .calls }) (L′.lowered (record { answer = r .answer; calls = r .calls }) ∷ [])
@@ -154,7 +150,6 @@ with-length = record {
     low = D′.lowered;
     tells = D′.lowers .val-is;
     typed = λ 𝓤 H A W x p. LL.lawful D.the-type D′.the-laws 𝓤 H A W .typed x _ p .0;
-    makes = λ 𝓤 H A W. LL.makes D.the-type D′.the-plain 𝓤 H A;
   };
   part = a-sealed-answer;
   session = λ r. r .session;
@@ -163,6 +158,7 @@ with-length = record {
   apart = λ r. refl;
   session-is = λ r is. subst (Is T.the-row (r .session)) (T′.lowers .val-is (r .session) _ (LL.owed D.the-type D′.the-laws r _ is .1 .1 .0)) (LL.owed D.the-type D′.the-laws r _ is .1 .1 .0);
   answer-is = sealed-answer-is;
+  makes = λ 𝓤 H A W. LL.makes L.the-type L′.the-plain 𝓤 H A;
   session-at = λ i. copy (place i (field 2 ∷ []));
   answer-at = λ i. aggregate (copy (place i (field 0 ∷ [])) ∷ copy (place i (field 1 ∷ [])) ∷ []);
   reads-session = λ t r n e c. load t (near t e (fld t refl (stop t))) (look-in t n (sub t 2 refl c));
@@ -175,7 +171,6 @@ a-unsealed-answer = record {
   low = P′.lowered;
   tells = P′.lowers .val-is;
   typed = λ 𝓤 H A W x p. LL.lawful P.the-type P′.the-laws 𝓤 H A W .typed x _ p .0;
-  makes = λ 𝓤 H A W. LL.makes P.the-type P′.the-plain 𝓤 H A;
 }
 
 pub unsealed-answer-is : (r : Unsealed) → Is U.the-row r (U′.lowered r ∷ []) → Is P.the-row (record { answer = r .answer; calls = r .calls }) (P′.lowered (record { answer = r .answer; calls = r .calls }) ∷ [])
@@ -190,7 +185,6 @@ with-place = record {
     low = U′.lowered;
     tells = U′.lowers .val-is;
     typed = λ 𝓤 H A W x p. LL.lawful U.the-type U′.the-laws 𝓤 H A W .typed x _ p .0;
-    makes = λ 𝓤 H A W. LL.makes U.the-type U′.the-plain 𝓤 H A;
   };
   part = a-unsealed-answer;
   session = λ r. r .session;
@@ -199,6 +193,7 @@ with-place = record {
   apart = λ r. refl;
   session-is = λ r is. subst (Is T.the-row (r .session)) (T′.lowers .val-is (r .session) _ (LL.owed U.the-type U′.the-laws r _ is .1 .1 .0)) (LL.owed U.the-type U′.the-laws r _ is .1 .1 .0);
   answer-is = unsealed-answer-is;
+  makes = λ 𝓤 H A W. LL.makes P.the-type P′.the-plain 𝓤 H A;
   session-at = λ i. copy (place i (field 2 ∷ []));
   answer-at = λ i. aggregate (copy (place i (field 0 ∷ [])) ∷ copy (place i (field 1 ∷ [])) ∷ []);
   reads-session = λ t r n e c. load t (near t e (fld t refl (stop t))) (look-in t n (sub t 2 refl c));

@@ -18,11 +18,11 @@ use types.Run.{look, init, forget, stop, load, and-then, returns, enter, alloc1,
 use types.SemTy.{Body}
 use sound.WpLaws.{FmC, fmOf, WpFn-mono}
 use contract.Lifetimes.{Lfts, Shares, toks}
-use denote.RattleType.{RattleType, Denots, Valss, owns, flat}
-use denote.Laws.{Is, Are, Ises, valss}
+use denote.RattleType.{RattleType, owns, flat}
+use denote.Laws.{Is}
 use denote.Memory.{mem}
 use denote.Builtin.{RefMutOf}
-use denote.Ref.{now, MutRef, ptr-vals, mut-tells}
+use denote.Ref.{RefT, ptr, name, now, ptr-vals, mut-tells}
 use denote.Signature.{plain, typesAt}
 use denote.Steps.{owned, nothing}
 use denote.Struct.Laws as LL
@@ -38,7 +38,7 @@ use Rattle.secure_session.proofs.session.Session as T
 use Rattle.secure_session.proofs.session.Session.Laws as T′
 use Rattle.secure_lent.proofs.Lending.{Result, lentTy, near, takes, calls-stores}
 use Rattle.secure_lent.proofs.Locals.{lets, past, Blocks, envs, rooms, alloc-all, free-all, emptied, From, Stand, from-two, from-here, from-next, from-past}
-use Rattle.secure_lent.proofs.Passed.{Passed, slots, inners, tys, Told, told, told-inner, words, spells, vals, below, ends, told-same, tells-all, saids, fits-said, goes-said, handed, returned}
+use Rattle.secure_lent.proofs.Passed.{Passed, slots, inners, tys, Told, told, told-inner, Values, words, spells, outer-vals, inner-vals, Related, below, ends, told-same, tells-all, saids, fits-said, goes-said, handed, returned}
 use Rattle.secure_lent.proofs.Passing.{temps, temp-words, lends, operands, as-if, pass-all, lends-all, reads-all}
 
 module _ {n : ℕ} (ps : List (Passed n)) {S R : RattleType} {σ ρ : Ty} (B : Result S R σ ρ) (k : Name) {M : Type 1} (𝓤 : URA M) (Φ : Session → Told ps (S .Denot → SProp 𝓤)) where
@@ -80,99 +80,115 @@ module _ {n : ℕ} (ps : List (Passed n)) {S R : RattleType} {σ ρ : Ty} (B : R
   }
 
   -- where each stands
+  abbrev after : ℕ → ℕ → Blocks (temps ps) → List (Ty × ℕ)
+  after m s cs = (σ, m) ∷ (T′.mir, s) ∷ envs (temps ps) cs []
+
   module _ (l₀ l₁ : ℕ) (bs : Blocks (tys ps)) (m s : ℕ) (cs : Blocks (temps ps)) where
-    abbrev after : List (Ty × ℕ)
-    after = (σ, m) ∷ (T′.mir, s) ∷ envs (temps ps) cs []
-
     abbrev env : List (Ty × ℕ)
-    env = (ρ, l₀) ∷ (lentTy, l₁) ∷ envs (tys ps) bs after
+    env = (ρ, l₀) ∷ (lentTy, l₁) ∷ envs (tys ps) bs (after m s cs)
 
-    from-others : From env 2 (envs (tys ps) bs after)
-    from-others = from-two (ρ, l₀) (lentTy, l₁) (envs (tys ps) bs after)
+    from-others : From env 2 (envs (tys ps) bs (after m s cs))
+    from-others = from-two (ρ, l₀) (lentTy, l₁) (envs (tys ps) bs (after m s cs))
 
-    from-whole : From env whole after
+    from-whole : From env whole (after m s cs)
     from-whole = from-past (tys ps) bs from-others
 
     at-others : Stand env 2 (tys ps) bs
-    at-others = record { rest = after; from = from-others }
+    at-others = record { rest = after m s cs; from = from-others }
 
     at-temps : Stand env temp (temps ps) cs
     at-temps = record { rest = []; from = from-next (from-next from-whole) }
 
-  module _ (H : Heap 𝓤) (A : Atoms 𝓤) (W : Given 𝓤 H A) (κ : Lft) (κs : Lfts n) (q : Share) (qs : Shares n) (b o : ℕ) (γ : GName) (h : Session) (a : Denots (typesAt (slots ps) (κ, κs))) where
-    abbrev arg : Args (ended .signature) (κ, κs)
-    arg = (record { ptr = (b, o); name = γ; now = h }, a)
-
-    abbrev others : Valss (typesAt (slots ps) (κ, κs))
-    others = valss (typesAt (slots ps) (κ, κs)) (spells (κ, κs) ps) a
-
-    abbrev at : Vals (ended .signature) (κ, κs)
-    at = (vptr b o ∷ [], others)
+  module _ (H : Heap 𝓤) (A : Atoms 𝓤) (W : Given 𝓤 H A) (κs : Lfts (suc n)) (qs : Shares (suc n)) (x : RefT Session) (a : Values κs ps) where
+    abbrev bound : walkOf 𝓤 H A ended stayed clauses .Ghost
+    bound = ((κs, qs, tt, (x, a), (ptr-vals x, (outer-vals κs ps a))), tt)
 
     abbrev Post : Val → SProp 𝓤
-    Post = walkOf 𝓤 H A ended stayed clauses .post (((κ, κs), (q, qs), tt, arg, at), tt)
+    Post = walkOf 𝓤 H A ended stayed clauses .post bound
 
-    -- the call: what it is passed, and what it asks
-    abbrev to : Callee H A .Ghost
-    to = ((κs, qs, tt, (h, below (κ, κs) ps a), (T′.lowered h ∷ [], vals (κ, κs) ps a)), tt)
+    -- the lent session, where its value is s: what is known of that, its borrow, and the token that opens it
+    abbrev Known : Session → Item 𝓤
+    Known s = ‵ (fobs (name x) (T.the-row .coded .code s))
 
+    abbrev Borrow : Item 𝓤
+    Borrow = ‵ (fbor (κs .0) (Body (mem T.the-row) (ptr x .0) (ptr x .1) (name x)))
+
+    abbrev Token : Item 𝓤
+    Token = ‵ (flft (κs .0) (qs .0))
+
+    -- of the others: the tokens, and what is owned
     abbrev Tokens : SProp 𝓤
-    Tokens = toks 𝓤 A n κs qs
+    Tokens = toks 𝓤 A n (κs .1) (qs .1)
 
     abbrev Owned : Item 𝓤
-    Owned = ‵ (owns (typesAt (slots ps) (κ, κs)) a others)
+    Owned = ‵ (owns (typesAt (slots ps) κs) a (outer-vals κs ps a))
 
-    asked : Is T.the-row h (T′.lowered h ∷ []) → ent 𝓤 (⋆ 𝓤 H A (raw Tokens ∷ Owned ∷ [])) (Callee H A .pre to)
-    asked g = qed W (raw Tokens ∷ Owned ∷ []) ∵ move ! (1 ∷ []) $ use1 W (‵ (owns (typesAt (inners ps) κs) (below (κ, κs) ps a) (vals (κ, κs) ps a))) (handed 𝓤 H A W (κ, κs) ps a) $
-        owned ! T.the-row (Is T.the-row) (LL.makes T.the-type T′.the-plain 𝓤 H A) h _ g $ fjoin ! $ nothing ! $ move ! (2 ∷ 1 ∷ []) $ join ! $ frame ! $ done !
+    -- the call: what it is passed, and what it asks
+    abbrev inside : Args (by-value .signature) (κs .1)
+    inside = (now x, below κs ps a)
 
-    -- what the callee says of what it returned
+    abbrev to : Callee H A .Ghost
+    to = ((κs .1, qs .1, tt, inside, (T′.lowered (now x) ∷ [], inner-vals κs ps a)), tt)
+
+    asked : Is T.the-row (now x) (T′.lowered (now x) ∷ []) → ent 𝓤 (⋆ 𝓤 H A (raw Tokens ∷ Owned ∷ [])) (Callee H A .pre to)
+    asked g = qed W (raw Tokens ∷ Owned ∷ []) ∵ move ! (1 ∷ []) $ use1 W (‵ (owns (typesAt (inners ps) (κs .1)) (below κs ps a) (inner-vals κs ps a))) (handed 𝓤 H A W κs ps a) $
+        owned ! T.the-row (Is T.the-row) (LL.makes T.the-type T′.the-plain 𝓤 H A) (now x) _ g $ fjoin ! $ nothing ! $ move ! (2 ∷ 1 ∷ []) $ join ! $ frame ! $ done !
+
+    -- what the callee says of what it returned, at the last values zs, and what the wrapper owes
     abbrev Said : S .Denot → SProp 𝓤
-    Said r = ensured 𝓤 H A by-value callee κs (h, below (κ, κs) ps a) tt r
+    Said r = ensured 𝓤 H A by-value callee (κs .1) inside tt r
 
-    exits : (r : S .Denot) → Is S r (B .whole .low r ∷ []) → ent 𝓤 (⋆ 𝓤 H A (‵ (fobs γ (T.the-row .coded .code (B .session r))) ∷ ‵ (fbor κ (Body (mem T.the-row) b o γ)) ∷ ‵ (flft κ q) ∷ raw Tokens ∷ raw (Said r) ∷ [])) (Post (B .part .low (B .answer r)))
+    module _ (r : S .Denot) (zs : Lasts by-value (κs .1) inside) where
+      abbrev Says : S .Denot → SProp 𝓤
+      Says = told-inner ps (κs .1) (Φ (now x)) (below κs ps a) (outs (κs .1) (inners ps) (all yes (inners ps)) (below κs ps a) (zs .1))
+
+      abbrev last : Lasts ended κs (x, a)
+      last = (B .session r, ends κs ps a (zs .1))
+
+      abbrev Owes : SProp 𝓤
+      Owes = told ps κs (Φ (now x)) a (outs κs (slots ps) (all yes (slots ps)) a (last .1)) (B .both (B .answer r) (B .session r))
+
+      says-owes : ent 𝓤 (Says r) Owes
+      says-owes = subst (λ (f : S .Denot → SProp 𝓤). ent 𝓤 (Says r) (f (B .both (B .answer r) (B .session r)))) (told-same κs ps (Φ (now x)) a (zs .1)) (subst (λ (r′ : S .Denot). ent 𝓤 (Says r) (Says r′)) (sym (B .apart r)) (id⊢ 𝓤 (Says r)))
+
+    exits : (r : S .Denot) → Is S r (B .whole .low r ∷ []) → ent 𝓤 (⋆ 𝓤 H A (Known (B .session r) ∷ Borrow ∷ Token ∷ raw Tokens ∷ raw (Said r) ∷ [])) (Post (B .part .low (B .answer r)))
     exits r is =
-        qed W (‵ (fobs γ (T.the-row .coded .code (B .session r))) ∷ ‵ (fbor κ (Body (mem T.the-row) b o γ)) ∷ ‵ (flft κ q) ∷ raw Tokens ∷ raw (Said r) ∷ []) ∵
-        move ! (4 ∷ []) $ use1 W (some (λ (zs : Lasts by-value κs (h, below (κ, κs) ps a)). ‵ (lasts by-value κs (h, below (κ, κs) ps a) zs) ⊛ raw (callee κs (h, below (κ, κs) ps a) .ensures tt r (outs κs (by-value .signature .params) (by-value .kept) (h, below (κ, κs) ps a) zs)))) (id⊢ 𝓤 _) $ pick ! (λ zs. split ! $ fsplit ! $ drop ! $
-        use1 W (‵ (hasOf (κ, κs) (slots ps) (all yes (slots ps)) (saids (slots ps)) a (ends (κ, κs) ps a (zs .1)) others)) (returned 𝓤 H A W (κ, κs) ps a (zs .1) others) $ move ! (1 ∷ []) $
-        use1 W (raw (told ps (κ, κs) (Φ h) a (outs (κ, κs) (slots ps) (all yes (slots ps)) a (ends (κ, κs) ps a (zs .1))) (B .both (B .answer r) (B .session r)))) (same r zs) $
-        suffices ! _ (via 𝓤 _ (comm∗ 𝓤 (told ps (κ, κs) (Φ h) a (outs (κ, κs) (slots ps) (all yes (slots ps)) a (ends (κ, κs) ps a (zs .1))) (B .both (B .answer r) (B .session r))) (onExit 𝓤 H A ended stayed (κ, κs) (q, qs) at (B .part .low (B .answer r)) (B .answer r) arg (B .session r, ends (κ, κs) ps a (zs .1))))
-        (ends-at 𝓤 H A ended stayed clauses W (((κ, κs), (q, qs), tt, arg, at), tt) (B .part .low (B .answer r)) (B .answer r) (B .session r, ends (κ, κs) ps a (zs .1)) (tt, fits-said (κ, κs) (slots ps) a (ends (κ, κs) ps a (zs .1))))) $ frame ! $
-        -- [what was said of the others; obs; the borrow; its token; the other tokens]
-        move ! (3 ∷ 4 ∷ []) $ join ! $ frame ! $ move ! (1 ∷ 2 ∷ []) $ feqI ! (List Val) (vptr b o ∷ []) (vptr b o ∷ []) refl $ fjoin3 ! $ fjoin ! $
-        owned ! R (Is R) (B .part .makes 𝓤 H A W) (B .answer r) _ (B .answer-is r is) $ move ! (1 ∷ 0 ∷ []) $ done !)
-      where
-        same : (r : S .Denot) (zs : Lasts by-value κs (h, below (κ, κs) ps a))
-            → ent 𝓤 (callee κs (h, below (κ, κs) ps a) .ensures tt r (outs κs (by-value .signature .params) (by-value .kept) (h, below (κ, κs) ps a) zs)) (told ps (κ, κs) (Φ h) a (outs (κ, κs) (slots ps) (all yes (slots ps)) a (ends (κ, κs) ps a (zs .1))) (B .both (B .answer r) (B .session r)))
-        same r zs =
-            let f : S .Denot → SProp 𝓤 = told-inner ps κs (Φ h) (below (κ, κs) ps a) (outs κs (inners ps) (all yes (inners ps)) (below (κ, κs) ps a) (zs .1)) in
-            subst (λ (g : S .Denot → SProp 𝓤). ent 𝓤 (f r) (g (B .both (B .answer r) (B .session r)))) (told-same (κ, κs) ps (Φ h) a (zs .1)) (subst (λ (r′ : S .Denot). ent 𝓤 (f r) (f r′)) (sym (B .apart r)) (id⊢ 𝓤 (f r)))
+        qed W (Known (B .session r) ∷ Borrow ∷ Token ∷ raw Tokens ∷ raw (Said r) ∷ []) ∵
+        move ! (4 ∷ []) $ use1 W (some (λ (zs : Lasts by-value (κs .1) inside). ‵ (lasts by-value (κs .1) inside zs) ⊛ raw (Says r zs r))) (id⊢ 𝓤 _) $ pick ! (λ zs. split ! $ fsplit ! $ drop ! $
+        use1 W (‵ (hasOf κs (slots ps) (all yes (slots ps)) (saids (slots ps)) a (last r zs .1) (outer-vals κs ps a))) (returned 𝓤 H A W κs ps a (zs .1) (outer-vals κs ps a)) $ move ! (1 ∷ []) $ use1 W (raw (Owes r zs)) (says-owes r zs) $
+        suffices ! _ (via 𝓤 _ (comm∗ 𝓤 (Owes r zs) (onExit 𝓤 H A ended stayed κs qs (bound .0 .4) (B .part .low (B .answer r)) (B .answer r) (x, a) (last r zs)))
+        (ends-at 𝓤 H A ended stayed clauses W bound (B .part .low (B .answer r)) (B .answer r) (last r zs) (tt, fits-said κs (slots ps) a (last r zs .1)))) $ frame ! $
+        -- [what was said of the others; what is known of the session; its borrow; its token; the other tokens]
+        move ! (3 ∷ 4 ∷ []) $ join ! $ frame ! $ move ! (1 ∷ 2 ∷ []) $ feqI ! (List Val) (ptr-vals x) (ptr-vals x) refl $ fjoin3 ! $ fjoin ! $
+        owned ! R (Is R) (B .makes 𝓤 H A W) (B .answer r) _ (B .answer-is r is) $ move ! (1 ∷ 0 ∷ []) $ done !)
 
     module _ (C : Calls 𝓤 H) (Λ : Loops 𝓤 H) (fm : FmC 𝓤 H (W .laws) C) (known : Triple 𝓤 (C k) (Callee H A)) where
-      walk : Are (typesAt (slots ps) (κ, κs)) (Ises (typesAt (slots ps) (κ, κs))) a others → ent 𝓤 (onEntry 𝓤 H A (ended .signature) (κ, κs) (q, qs) arg at) (WpFn 𝓤 H C Λ lent (vptr b o ∷ flat (typesAt (slots ps) (κ, κs)) others) Post)
+      walk : Related κs ps a → ent 𝓤 (onEntry 𝓤 H A (ended .signature) κs qs (x, a) (ptr-vals x, (outer-vals κs ps a))) (WpFn 𝓤 H C Λ lent (flat (typesAt (ended .signature .params) κs) (ptr-vals x, (outer-vals κs ps a))) Post)
       walk are =
-          qed W ((‵ (flft κ q) ⊛ raw Tokens) ∷ ‵ (owns (MutRef (named 0) κ T.the-row ∷ typesAt (slots ps) (κ, κs)) arg at) ∷ []) ∵ enter ! C Λ lent (vptr b o ∷ flat (typesAt (slots ps) (κ, κs)) others) _ $
+          qed W ((Token ⊛ raw Tokens) ∷ ‵ (owns (typesAt (ended .signature .params) κs) (x, a) (ptr-vals x, (outer-vals κs ps a))) ∷ []) ∵ enter ! C Λ lent (flat (typesAt (ended .signature .params) κs) (ptr-vals x, (outer-vals κs ps a))) _ $
           alloc1 ! (λ l₀. alloc1 ! (λ l₁. alloc-all ! (tys ps) (λ bs. alloc1 ! (λ m. alloc1 ! (λ s. alloc-all ! (temps ps) (λ cs. alloc0 ! $ params1 ! $
-          pass1 ! (init ! 8 refl (tt, tt)) $ move ! (6 ∷ []) $ pass-all (κ, κs) ! ((σ, m) ∷ (T′.mir, s) ∷ envs (temps ps) cs []) ps a bs are $
+          pass1 ! (init ! 8 refl (tt, tt)) $ move ! (6 ∷ []) $ pass-all κs ! (after m s cs) ps a bs are $
           -- what is owned is taken apart
           move ! (13 ∷ []) $ fsplit ! $ fsplit3 ! $ drop ! $ move ! (15 ∷ []) $ split ! $ move ! (2 ∷ 3 ∷ 0 ∷ 8 ∷ 13 ∷ []) $
           -- the session is copied
-          takes ! h refl (from-here (from-next (from-whole l₀ l₁ bs m s cs))) (λ g.
+          takes ! (now x) refl (from-here (from-next (from-whole l₀ l₁ bs m s cs))) (λ g.
           -- the slices that are altered are lent again
-          move ! (5 ∷ 6 ∷ []) $ lends-all (κ, κs) ! ps a bs cs are (at-others l₀ l₁ bs m s cs) (at-temps l₀ l₁ bs m s cs) $
+          move ! (5 ∷ 6 ∷ []) $ lends-all κs ! ps a bs cs are (at-others l₀ l₁ bs m s cs) (at-temps l₀ l₁ bs m s cs) $
+          -- [the other parameters; what they are lent again by; the session, which is open; its copy; its reference; the tokens; what is owned; …]
           move ! (5 ∷ 6 ∷ []) $ use2 W (raw (Callee H A .pre to)) (asked g) $ move ! (0 ∷ 3 ∷ 5 ∷ 8 ∷ 12 ∷ []) $
-          calls-stores B ! fm h (Callee H A) known to Tokens Said (λ v. id⊢ 𝓤 _) refl refl (from-here (from-whole l₀ l₁ bs m s cs))
-          (as-if ! (λ G. move ! (5 ∷ 6 ∷ [])) (λ G. move ! (2 ∷ 3 ∷ 4 ∷ 5 ∷ 6 ∷ 0 ∷ 1 ∷ [])) (and-then ! (load ! (near ! (from-here (from-next (from-whole l₀ l₁ bs m s cs))) (stop !)) (look ! 7 refl)) (reads-all (κ, κs) ! ps a bs cs (at-others l₀ l₁ bs m s cs) (at-temps l₀ l₁ bs m s cs)))) (λ r is.
-          -- [obs; the borrow; its token; the other tokens; what the callee said; the locals …]
+          calls-stores B ! fm (now x) (Callee H A) known to Tokens Said (λ v. id⊢ 𝓤 _) refl refl (from-here (from-whole l₀ l₁ bs m s cs))
+          (as-if ! (λ G. move ! (5 ∷ 6 ∷ [])) (λ G. move ! (2 ∷ 3 ∷ 4 ∷ 5 ∷ 6 ∷ 0 ∷ 1 ∷ []))
+          (and-then ! (load ! (near ! (from-here (from-next (from-whole l₀ l₁ bs m s cs))) (stop !)) (look ! 7 refl)) (reads-all κs ! ps a bs cs (at-others l₀ l₁ bs m s cs) (at-temps l₀ l₁ bs m s cs)))) (λ r is.
+          -- [what is known of the session; its borrow; its token; the other tokens; what the callee said; the locals …]
           returns ! (look ! 7 refl) $ forget ! 7 refl $ forget ! 6 refl $ forget ! 5 refl $ forget ! 10 refl $
-          move ! (8 ∷ 9 ∷ []) $ use1 W (‵ (rooms (tys ps) bs)) (emptied W (tys ps) bs (words (κ, κs) ps a)) $ move ! (1 ∷ []) $ use1 W (‵ (rooms (temps ps) cs)) (emptied W (temps ps) cs (temp-words (κ, κs) ps a)) $
+          move ! (8 ∷ 9 ∷ []) $ use1 W (‵ (rooms (tys ps) bs)) (emptied W (tys ps) bs (words κs ps a)) $ move ! (1 ∷ []) $ use1 W (‵ (rooms (temps ps) cs)) (emptied W (temps ps) cs (temp-words κs ps a)) $
           move ! (9 ∷ 16 ∷ []) $ free1 ! $ move ! (7 ∷ 14 ∷ []) $ free1 ! $ move ! (1 ∷ 12 ∷ []) $ free-all ! (tys ps) bs $ move ! (6 ∷ 10 ∷ []) $ free1 ! $ move ! (6 ∷ 8 ∷ []) $ free1 ! $ move ! (0 ∷ 6 ∷ []) $ free-all ! (temps ps) cs $ free0 ! $
           by ! (exits r is)))))))))
 
   module _ (H : Heap 𝓤) (A : Atoms 𝓤) (W : Given 𝓤 H A) where
     walks : (C : Calls 𝓤 H) (Λ : Loops 𝓤 H) → FmC 𝓤 H (W .laws) C → Triple 𝓤 (C k) (Callee H A) → Walks 𝓤 H A ended stayed (WpFn 𝓤 H C Λ lent) clauses
     walks C Λ fm known = walked 𝓤 H A ended stayed clauses (WpFn 𝓤 H C Λ lent) (λ κs. (ptr-vals, spells κs ps)) (λ κs. (mut-tells (named 0) (κs .0) T.the-row, tells-all κs ps))
-        (λ κs qs bounds a _ are. via 𝓤 _ (fst∗ 𝓤 _ (emp 𝓤)) (walk H A W (κs .0) (κs .1) (qs .0) (qs .1) (a .0 .ptr .0) (a .0 .ptr .1) (a .0 .name) (a .0 .now) (a .1) C Λ fm known (are .1)))
+        (λ κs qs bounds a _ are. via 𝓤 _ (fst∗ 𝓤 _ (emp 𝓤)) (walk H A W κs qs (a .0) (a .1) C Λ fm known (are .1)))
 
     pub meets : (𝓣 : Tables 𝓤 H) → Triple 𝓤 (𝓣 .C k) (Callee H A) → Meets 𝓤 H A (ended .signature) (WpFn 𝓤 H (𝓣 .C) (𝓣 .Λ) lent) (closing 𝓤 H A ended clauses)
     meets 𝓣 known = walk-meets 𝓤 H A ended stayed W (goes-ref 𝓤 H A W (suc n) 0 tt (plain (λ _. T.the-row)), goes-said 𝓤 H A W (slots ps)) clauses (WpFn 𝓤 H (𝓣 .C) (𝓣 .Λ) lent) (WpFn-mono 𝓤 H (W .laws) 𝓣 lent) (walks (𝓣 .C) (𝓣 .Λ) (fmOf 𝓤 H (W .laws) 𝓣) known)

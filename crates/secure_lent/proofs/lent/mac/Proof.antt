@@ -14,7 +14,7 @@ use Rattle.secure_session.specs.declared.session.SteppedBlock.{SteppedBlock}
 use Rattle.secure_session.specs.Channel.{makeMac}
 use Rattle.secure_session.specs.declared.session.Session.{Session}
 use Rattle.secure_lent.proofs.Results.{with-block}
-use Rattle.secure_lent.proofs.Passed.{Passed, slice}
+use Rattle.secure_lent.proofs.Passed.{Passed, copied, slice}
 use Rattle.secure_lent.proofs.Wrapper.{Callee, meets}
 use Rattle.secure_session.proofs.session.Session.mac.Symbol as fun-def
 use Rattle.secure_session.proofs.session.Session.mac.Symbol.{name as #secure-session·session·Session·mac}
@@ -26,7 +26,7 @@ use Rattle.secure_lent.proofs.lent.mac.Code as code
 
 -- what it takes beside the session
 abbrev others : List (Passed 1)
-others = slice 0 tt ∷ []
+others = copied (slice 0 tt) ∷ []
 
 -- what both say
 abbrev Says : {M : Type 1} (𝓤 : URA M) → Session → List ℕ → SteppedBlock → SProp 𝓤

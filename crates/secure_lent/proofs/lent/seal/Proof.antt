@@ -26,7 +26,7 @@ use Rattle.secure_seal.specs.declared.frame.Sealed.{Sealed}
 use Rattle.secure_session.specs.declared.session.Session.{Session}
 use Rattle.secure_lent.proofs.Results.{with-length}
 use Rattle.secure_lent.proofs.Lending.{Datum, a-byte, a-bool}
-use Rattle.secure_lent.proofs.Passed.{Passed, datum, slice, buffer}
+use Rattle.secure_lent.proofs.Passed.{Passed, copied, datum, slice, buffer}
 use Rattle.secure_lent.proofs.Wrapper.{Callee, meets}
 use Rattle.secure_seal.proofs.seal.Symbol as fun-def
 use Rattle.secure_seal.proofs.seal.Symbol.{name as #secure-seal·seal}
@@ -37,17 +37,17 @@ use Rattle.secure_lent.proofs.lent.seal.Statement as stated
 use Rattle.secure_lent.proofs.lent.seal.Code as code
 
 abbrev an-address : Datum Ad.the-row Ad′.mir
-an-address = record { low = Ad′.lowered; tells = Ad′.lowers .val-is; typed = λ 𝓤 H A W x p. LL.lawful Ad.the-type Ad′.the-laws 𝓤 H A W .typed x _ p .0; makes = λ 𝓤 H A W. LL.makes Ad.the-type Ad′.the-plain 𝓤 H A }
+an-address = record { low = Ad′.lowered; tells = Ad′.lowers .val-is; typed = λ 𝓤 H A W x p. LL.lawful Ad.the-type Ad′.the-laws 𝓤 H A W .typed x _ p .0 }
 
 abbrev an-sqn : Datum Sq.the-row Sq′.mir
-an-sqn = record { low = Sq′.lowered; tells = Sq′.lowers .val-is; typed = λ 𝓤 H A W x p. LL.lawful Sq.the-type Sq′.the-laws 𝓤 H A W .typed x _ p .0; makes = λ 𝓤 H A W. LL.makes Sq.the-type Sq′.the-plain 𝓤 H A }
+an-sqn = record { low = Sq′.lowered; tells = Sq′.lowers .val-is; typed = λ 𝓤 H A W x p. LL.lawful Sq.the-type Sq′.the-laws 𝓤 H A W .typed x _ p .0 }
 
 abbrev a-direction : Datum Di.the-row Di′.mir
-a-direction = record { low = Di′.lowered; tells = Di′.lowers .val-is; typed = λ 𝓤 H A W x p. EL.lawful Di.the-type Di′.the-laws 𝓤 H A W tt .typed x _ p .0; makes = λ 𝓤 H A W. EL.makes Di.the-type Di′.the-plain 𝓤 H A }
+a-direction = record { low = Di′.lowered; tells = Di′.lowers .val-is; typed = λ 𝓤 H A W x p. EL.lawful Di.the-type Di′.the-laws 𝓤 H A W tt .typed x _ p .0 }
 
 -- what it takes beside the session
 abbrev others : List (Passed 2)
-others = datum an-address ∷ datum an-sqn ∷ datum a-direction ∷ datum a-bool ∷ datum a-byte ∷ slice 0 tt ∷ buffer 1 tt ∷ []
+others = copied (datum an-address) ∷ copied (datum an-sqn) ∷ copied (datum a-direction) ∷ copied (datum a-bool) ∷ copied (datum a-byte) ∷ copied (slice 0 tt) ∷ buffer 1 tt ∷ []
 
 -- what both say
 abbrev Says : {M : Type 1} (𝓤 : URA M) → Session → Address → Sqn → Direction → Bool → ℕ → List ℕ → List ℕ → List ℕ → Sealed → SProp 𝓤

@@ -13,7 +13,7 @@ use Rattle.secure_unseal.specs.Unseal.{unsealOf, unsealTold}
 use Rattle.secure_unseal.specs.declared.frame.Unsealed.{Unsealed}
 use Rattle.secure_session.specs.declared.session.Session.{Session}
 use Rattle.secure_lent.proofs.Results.{with-place}
-use Rattle.secure_lent.proofs.Passed.{Passed, slice, buffer}
+use Rattle.secure_lent.proofs.Passed.{Passed, copied, slice, buffer}
 use Rattle.secure_lent.proofs.Wrapper.{Callee, meets}
 use Rattle.secure_unseal.proofs.unseal.Symbol as fun-def
 use Rattle.secure_unseal.proofs.unseal.Symbol.{name as #secure-unseal·unseal}
@@ -25,7 +25,7 @@ use Rattle.secure_lent.proofs.lent.unseal.Code as code
 
 -- what it takes beside the session
 abbrev others : List (Passed 2)
-others = slice 0 tt ∷ buffer 1 tt ∷ []
+others = copied (slice 0 tt) ∷ buffer 1 tt ∷ []
 
 -- what both say
 abbrev Says : {M : Type 1} (𝓤 : URA M) → Session → List ℕ → List ℕ → List ℕ → Unsealed → SProp 𝓤

@@ -15,7 +15,7 @@ use Rattle.secure_session.specs.Channel.{verifyOf}
 use Rattle.secure_session.specs.declared.session.Session.{Session}
 use Rattle.secure_lent.proofs.Results.{with-outcome}
 use Rattle.secure_lent.proofs.Lending.{bytes}
-use Rattle.secure_lent.proofs.Passed.{Passed, datum, slice}
+use Rattle.secure_lent.proofs.Passed.{Passed, copied, datum, slice}
 use Rattle.secure_lent.proofs.Wrapper.{Callee, meets}
 use Rattle.secure_session.proofs.session.Session.verify.Symbol as fun-def
 use Rattle.secure_session.proofs.session.Session.verify.Symbol.{name as #secure-session·session·Session·verify}
@@ -27,7 +27,7 @@ use Rattle.secure_lent.proofs.lent.verify.Code as code
 
 -- what it takes beside the session
 abbrev others : List (Passed 1)
-others = slice 0 tt ∷ datum (bytes 4) ∷ []
+others = copied (slice 0 tt) ∷ copied (datum (bytes 4)) ∷ []
 
 -- what both say
 abbrev Says : {M : Type 1} (𝓤 : URA M) → Session → List ℕ → List ℕ → Stepped → SProp 𝓤
