@@ -1,3 +1,4 @@
+pub mod Datum
 pub mod Lending
 pub mod Results
 pub mod Locals

@@ -29,7 +29,8 @@ use denote.Signature.{Slot, plain, shrSliceOf, mutSliceOf, meetAt, typesAt}
 use denote.Exit.{yes, Last, left, Seen}
 use denote.Triple.End.{all, Fins, Outs, outs, lastsOf}
 use denote.Triple.Walked.{Stay, Stays, hasOf, fitsOf, Goes, AllGo}
-use Rattle.secure_lent.proofs.Lending.{Datum, sliceTy}
+use Rattle.secure_lent.proofs.Datum.{Datum}
+use Rattle.secure_lent.proofs.Lending.{sliceTy}
 use Rattle.secure_lent.proofs.Locals.{Words}
 
 -- passed on as it is

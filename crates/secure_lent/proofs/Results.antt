@@ -32,15 +32,12 @@ use Rattle.secure_lent.proofs.lent.SealedLent as L
 use Rattle.secure_lent.proofs.lent.SealedLent.Laws as L′
 use Rattle.secure_lent.proofs.lent.UnsealedLent as P
 use Rattle.secure_lent.proofs.lent.UnsealedLent.Laws as P′
-use Rattle.secure_lent.proofs.Lending.{Datum, Result, near}
+use Rattle.secure_lent.proofs.Datum.{Datum, own-value, a-struct, an-enum}
+use Rattle.secure_lent.proofs.Lending.{Result, near, reads-field}
 
 -- ---- a session alone
 abbrev pub a-session : Datum T.the-row T′.mir
-a-session = record {
-  low = T′.lowered;
-  tells = T′.lowers .val-is;
-  typed = λ 𝓤 H A W x p. LL.lawful T.the-type T′.the-laws 𝓤 H A W .typed x _ p .0;
-}
+a-session = a-struct T.the-type T′.the-laws T′.lowers
 
 abbrev pub no-answer : Datum unit tyUnit
 no-answer = record {
@@ -68,134 +65,102 @@ session-only = record {
 
 -- ---- an outcome beside it
 abbrev pub an-outcome : Datum O.the-row O′.mir
-an-outcome = record {
-  low = O′.lowered;
-  tells = O′.lowers .val-is;
-  typed = λ 𝓤 H A W x p. EL.lawful O.the-type O′.the-laws 𝓤 H A W tt .typed x _ p .0;
-}
+an-outcome = an-enum O.the-type O′.the-laws tt O′.lowers
 
 abbrev pub with-outcome : Result S.the-row O.the-row S′.mir O′.mir
 with-outcome = record {
-  whole = record {
-    low = S′.lowered;
-    tells = S′.lowers .val-is;
-    typed = λ 𝓤 H A W x p. LL.lawful S.the-type S′.the-laws 𝓤 H A W .typed x _ p .0;
-  };
+  whole = a-struct S.the-type S′.the-laws S′.lowers;
   part = an-outcome;
   session = λ r. r .session;
   answer = λ r. r .outcome;
   both = λ a s. record { outcome = a; session = s };
   apart = λ r. refl;
-  session-is = λ r is. subst (Is T.the-row (r .session)) (T′.lowers .val-is (r .session) _ (LL.owed S.the-type S′.the-laws r _ is .1 .0)) (LL.owed S.the-type S′.the-laws r _ is .1 .0);
-  answer-is = λ r is. subst (Is O.the-row (r .outcome)) (O′.lowers .val-is (r .outcome) _ (LL.owed S.the-type S′.the-laws r _ is .0)) (LL.owed S.the-type S′.the-laws r _ is .0);
+  session-is = λ r is. own-value a-session (r .session) _ (LL.owed S.the-type S′.the-laws r _ is .1 .0);
+  answer-is = λ r is. own-value an-outcome (r .outcome) _ (LL.owed S.the-type S′.the-laws r _ is .0);
   makes = λ 𝓤 H A W. EL.makes O.the-type O′.the-plain 𝓤 H A;
   session-at = λ i. copy (place i (field 1 ∷ []));
   answer-at = λ i. rvOpd (copy (place i (field 0 ∷ [])));
-  reads-session = λ t r n e c. load t (near t e (fld t refl (stop t))) (look-in t n (sub t 1 refl c));
-  reads-answer = λ t r n e c. of-opd t (load t (near t e (fld t refl (stop t))) (look-in t n (sub t 0 refl c)));
+  reads-session = λ t r n e c. reads-field t 1 refl n e c;
+  reads-answer = λ t r n e c. of-opd t (reads-field t 0 refl n e c);
 }
 
 -- ---- an outcome and a block beside it
 abbrev pub a-block-answer : Datum N.the-row N′.mir
-a-block-answer = record {
-  low = N′.lowered;
-  tells = N′.lowers .val-is;
-  typed = λ 𝓤 H A W x p. LL.lawful N.the-type N′.the-laws 𝓤 H A W .typed x _ p .0;
-}
+a-block-answer = a-struct N.the-type N′.the-laws N′.lowers
 
 pub block-answer-is : (r : SteppedBlock) → Is B.the-row r (B′.lowered r ∷ []) → Is N.the-row (record { outcome = r .outcome; block = r .block }) (N′.lowered (record { outcome = r .outcome; block = r .block }) ∷ [])
 block-answer-is r is =
     let w = LL.owed B.the-type B′.the-laws r _ is in
     let p = LL.owes N.the-type N′.the-laws (record { outcome = r .outcome; block = r .block }) (w .0, (w .1 .0, tt)) in
-    subst (Is N.the-row (record { outcome = r .outcome; block = r .block })) (N′.lowers .val-is (record { outcome = r .outcome; block = r .block }) _ p) p
+    own-value a-block-answer (record { outcome = r .outcome; block = r .block }) _ p
 
 abbrev pub with-block : Result B.the-row N.the-row B′.mir N′.mir
 with-block = record {
-  whole = record {
-    low = B′.lowered;
-    tells = B′.lowers .val-is;
-    typed = λ 𝓤 H A W x p. LL.lawful B.the-type B′.the-laws 𝓤 H A W .typed x _ p .0;
-  };
+  whole = a-struct B.the-type B′.the-laws B′.lowers;
   part = a-block-answer;
   session = λ r. r .session;
   answer = λ r. record { outcome = r .outcome; block = r .block };
   both = λ a s. record { outcome = a .outcome; block = a .block; session = s };
   apart = λ r. refl;
-  session-is = λ r is. subst (Is T.the-row (r .session)) (T′.lowers .val-is (r .session) _ (LL.owed B.the-type B′.the-laws r _ is .1 .1 .0)) (LL.owed B.the-type B′.the-laws r _ is .1 .1 .0);
+  session-is = λ r is. own-value a-session (r .session) _ (LL.owed B.the-type B′.the-laws r _ is .1 .1 .0);
   answer-is = block-answer-is;
   makes = λ 𝓤 H A W. LL.makes N.the-type N′.the-plain 𝓤 H A;
   session-at = λ i. copy (place i (field 2 ∷ []));
   answer-at = λ i. aggregate (copy (place i (field 0 ∷ [])) ∷ copy (place i (field 1 ∷ [])) ∷ []);
-  reads-session = λ t r n e c. load t (near t e (fld t refl (stop t))) (look-in t n (sub t 2 refl c));
-  reads-answer = λ t r n e c. agg t (and-then t (load t (near t e (fld t refl (stop t))) (look-in t n (sub t 0 refl c))) (and-then t (load t (near t e (fld t refl (stop t))) (look-in t n (sub t 1 refl c))) (no-more t)));
+  reads-session = λ t r n e c. reads-field t 2 refl n e c;
+  reads-answer = λ t r n e c. agg t (and-then t (reads-field t 0 refl n e c) (and-then t (reads-field t 1 refl n e c) (no-more t)));
 }
 
 -- ---- what sealing answers
 abbrev pub a-sealed-answer : Datum L.the-row L′.mir
-a-sealed-answer = record {
-  low = L′.lowered;
-  tells = L′.lowers .val-is;
-  typed = λ 𝓤 H A W x p. LL.lawful L.the-type L′.the-laws 𝓤 H A W .typed x _ p .0;
-}
+a-sealed-answer = a-struct L.the-type L′.the-laws L′.lowers
 
 pub sealed-answer-is : (r : Sealed) → Is D.the-row r (D′.lowered r ∷ []) → Is L.the-row (record { answer = r .answer; calls = r .calls }) (L′.lowered (record { answer = r .answer; calls = r .calls }) ∷ [])
 sealed-answer-is r is =
     let w = LL.owed D.the-type D′.the-laws r _ is in
     let p = LL.owes L.the-type L′.the-laws (record { answer = r .answer; calls = r .calls }) (w .0, (w .1 .0, tt)) in
-    subst (Is L.the-row (record { answer = r .answer; calls = r .calls })) (L′.lowers .val-is (record { answer = r .answer; calls = r .calls }) _ p) p
+    own-value a-sealed-answer (record { answer = r .answer; calls = r .calls }) _ p
 
 abbrev pub with-length : Result D.the-row L.the-row D′.mir L′.mir
 with-length = record {
-  whole = record {
-    low = D′.lowered;
-    tells = D′.lowers .val-is;
-    typed = λ 𝓤 H A W x p. LL.lawful D.the-type D′.the-laws 𝓤 H A W .typed x _ p .0;
-  };
+  whole = a-struct D.the-type D′.the-laws D′.lowers;
   part = a-sealed-answer;
   session = λ r. r .session;
   answer = λ r. record { answer = r .answer; calls = r .calls };
   both = λ a s. record { answer = a .answer; calls = a .calls; session = s };
   apart = λ r. refl;
-  session-is = λ r is. subst (Is T.the-row (r .session)) (T′.lowers .val-is (r .session) _ (LL.owed D.the-type D′.the-laws r _ is .1 .1 .0)) (LL.owed D.the-type D′.the-laws r _ is .1 .1 .0);
+  session-is = λ r is. own-value a-session (r .session) _ (LL.owed D.the-type D′.the-laws r _ is .1 .1 .0);
   answer-is = sealed-answer-is;
   makes = λ 𝓤 H A W. LL.makes L.the-type L′.the-plain 𝓤 H A;
   session-at = λ i. copy (place i (field 2 ∷ []));
   answer-at = λ i. aggregate (copy (place i (field 0 ∷ [])) ∷ copy (place i (field 1 ∷ [])) ∷ []);
-  reads-session = λ t r n e c. load t (near t e (fld t refl (stop t))) (look-in t n (sub t 2 refl c));
-  reads-answer = λ t r n e c. agg t (and-then t (load t (near t e (fld t refl (stop t))) (look-in t n (sub t 0 refl c))) (and-then t (load t (near t e (fld t refl (stop t))) (look-in t n (sub t 1 refl c))) (no-more t)));
+  reads-session = λ t r n e c. reads-field t 2 refl n e c;
+  reads-answer = λ t r n e c. agg t (and-then t (reads-field t 0 refl n e c) (and-then t (reads-field t 1 refl n e c) (no-more t)));
 }
 
 -- ---- what unsealing answers
 abbrev pub a-unsealed-answer : Datum P.the-row P′.mir
-a-unsealed-answer = record {
-  low = P′.lowered;
-  tells = P′.lowers .val-is;
-  typed = λ 𝓤 H A W x p. LL.lawful P.the-type P′.the-laws 𝓤 H A W .typed x _ p .0;
-}
+a-unsealed-answer = a-struct P.the-type P′.the-laws P′.lowers
 
 pub unsealed-answer-is : (r : Unsealed) → Is U.the-row r (U′.lowered r ∷ []) → Is P.the-row (record { answer = r .answer; calls = r .calls }) (P′.lowered (record { answer = r .answer; calls = r .calls }) ∷ [])
 unsealed-answer-is r is =
     let w = LL.owed U.the-type U′.the-laws r _ is in
     let p = LL.owes P.the-type P′.the-laws (record { answer = r .answer; calls = r .calls }) (w .0, (w .1 .0, tt)) in
-    subst (Is P.the-row (record { answer = r .answer; calls = r .calls })) (P′.lowers .val-is (record { answer = r .answer; calls = r .calls }) _ p) p
+    own-value a-unsealed-answer (record { answer = r .answer; calls = r .calls }) _ p
 
 abbrev pub with-place : Result U.the-row P.the-row U′.mir P′.mir
 with-place = record {
-  whole = record {
-    low = U′.lowered;
-    tells = U′.lowers .val-is;
-    typed = λ 𝓤 H A W x p. LL.lawful U.the-type U′.the-laws 𝓤 H A W .typed x _ p .0;
-  };
+  whole = a-struct U.the-type U′.the-laws U′.lowers;
   part = a-unsealed-answer;
   session = λ r. r .session;
   answer = λ r. record { answer = r .answer; calls = r .calls };
   both = λ a s. record { answer = a .answer; calls = a .calls; session = s };
   apart = λ r. refl;
-  session-is = λ r is. subst (Is T.the-row (r .session)) (T′.lowers .val-is (r .session) _ (LL.owed U.the-type U′.the-laws r _ is .1 .1 .0)) (LL.owed U.the-type U′.the-laws r _ is .1 .1 .0);
+  session-is = λ r is. own-value a-session (r .session) _ (LL.owed U.the-type U′.the-laws r _ is .1 .1 .0);
   answer-is = unsealed-answer-is;
   makes = λ 𝓤 H A W. LL.makes P.the-type P′.the-plain 𝓤 H A;
   session-at = λ i. copy (place i (field 2 ∷ []));
   answer-at = λ i. aggregate (copy (place i (field 0 ∷ [])) ∷ copy (place i (field 1 ∷ [])) ∷ []);
-  reads-session = λ t r n e c. load t (near t e (fld t refl (stop t))) (look-in t n (sub t 2 refl c));
-  reads-answer = λ t r n e c. agg t (and-then t (load t (near t e (fld t refl (stop t))) (look-in t n (sub t 0 refl c))) (and-then t (load t (near t e (fld t refl (stop t))) (look-in t n (sub t 1 refl c))) (no-more t)));
+  reads-session = λ t r n e c. reads-field t 2 refl n e c;
+  reads-answer = λ t r n e c. agg t (and-then t (reads-field t 0 refl n e c) (and-then t (reads-field t 1 refl n e c) (no-more t)));
 }

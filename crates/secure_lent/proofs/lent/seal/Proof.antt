@@ -9,8 +9,6 @@ use contract.Monad.{fact}
 use contract.Running.{givenOf, tables, tablesOf}
 use denote.Triple.Spec.{tripleOf}
 use denote.Triple.Table.{entered, cited}
-use denote.Struct.Laws as LL
-use denote.Enum.Laws as EL
 use mathlib.Core.Bool.{Bool}
 use Rattle.packet_head.specs.declared.header.Address.{Address}
 use Rattle.packet_head.specs.declared.header.Sqn.{Sqn}
@@ -25,7 +23,7 @@ use Rattle.secure_seal.specs.declared.frame.Direction.{Direction}
 use Rattle.secure_seal.specs.declared.frame.Sealed.{Sealed}
 use Rattle.secure_session.specs.declared.session.Session.{Session}
 use Rattle.secure_lent.proofs.Results.{with-length}
-use Rattle.secure_lent.proofs.Lending.{Datum, a-byte, a-bool}
+use Rattle.secure_lent.proofs.Datum.{Datum, a-byte, a-bool, a-struct, an-enum}
 use Rattle.secure_lent.proofs.Passed.{Passed, copied, datum, slice, buffer}
 use Rattle.secure_lent.proofs.Wrapper.{Callee, meets}
 use Rattle.secure_seal.proofs.seal.Symbol as fun-def
@@ -37,13 +35,13 @@ use Rattle.secure_lent.proofs.lent.seal.Statement as stated
 use Rattle.secure_lent.proofs.lent.seal.Code as code
 
 abbrev an-address : Datum Ad.the-row Ad′.mir
-an-address = record { low = Ad′.lowered; tells = Ad′.lowers .val-is; typed = λ 𝓤 H A W x p. LL.lawful Ad.the-type Ad′.the-laws 𝓤 H A W .typed x _ p .0 }
+an-address = a-struct Ad.the-type Ad′.the-laws Ad′.lowers
 
 abbrev an-sqn : Datum Sq.the-row Sq′.mir
-an-sqn = record { low = Sq′.lowered; tells = Sq′.lowers .val-is; typed = λ 𝓤 H A W x p. LL.lawful Sq.the-type Sq′.the-laws 𝓤 H A W .typed x _ p .0 }
+an-sqn = a-struct Sq.the-type Sq′.the-laws Sq′.lowers
 
 abbrev a-direction : Datum Di.the-row Di′.mir
-a-direction = record { low = Di′.lowered; tells = Di′.lowers .val-is; typed = λ 𝓤 H A W x p. EL.lawful Di.the-type Di′.the-laws 𝓤 H A W tt .typed x _ p .0 }
+a-direction = an-enum Di.the-type Di′.the-laws tt Di′.lowers
 
 -- what it takes beside the session
 abbrev others : List (Passed 2)

@@ -14,7 +14,7 @@ use Rattle.secure_session.specs.declared.session.Stepped.{Stepped}
 use Rattle.secure_session.specs.Channel.{verifyOf}
 use Rattle.secure_session.specs.declared.session.Session.{Session}
 use Rattle.secure_lent.proofs.Results.{with-outcome}
-use Rattle.secure_lent.proofs.Lending.{bytes}
+use Rattle.secure_lent.proofs.Datum.{bytes}
 use Rattle.secure_lent.proofs.Passed.{Passed, copied, datum, slice}
 use Rattle.secure_lent.proofs.Wrapper.{Callee, meets}
 use Rattle.secure_session.proofs.session.Session.verify.Symbol as fun-def
