@@ -24,7 +24,7 @@ use denote.Slice.{sliceVal}
 use denote.Signature.{typesAt}
 use Rattle.secure_lent.proofs.Lending.{sliceTy, near}
 use Rattle.secure_lent.proofs.Locals.{Blocks, Words, envs, rooms, cells, Stand, here, next}
-use Rattle.secure_lent.proofs.Passed.{Passed, copied, buffer, slots, inners, tys, Values, words, outer-vals, inner-vals, Related, typed-one}
+use Rattle.secure_lent.proofs.Passed.{Passed, copied, buffer, inner, outer, slots, tys, Values, words, outer-vals, inner-vals, Related, typed-one}
 
 -- a pointer to a byte that may be altered, for a time that no signature names
 abbrev again : Ty
@@ -73,7 +73,7 @@ module _ {M : Type 1} {𝓤 : URA M} {H : Heap 𝓤} {A : Atoms 𝓤} {K : Type 
 
   module _ {n : ℕ} (κs : Lfts (suc n)) where
     pub pass-all : {Γ : List (Item 𝓤)} {g : Goal 𝓤 H} → K → (E : Env 𝓤 H) (ps : List (Passed n)) (a : Values κs ps) (bs : Blocks (tys ps)) → Related κs ps a
-        → Step K W (‵ (cells (tys ps) bs (words κs ps a)) ∷ Γ) g (‵ (rooms (tys ps) bs) ∷ Γ) (passes (envs (tys ps) bs E) (flat (typesAt (slots ps) κs) (outer-vals κs ps a)) g)
+        → Step K W (‵ (cells (tys ps) bs (words κs ps a)) ∷ Γ) g (‵ (rooms (tys ps) bs) ∷ Γ) (passes (envs (tys ps) bs E) (flat (typesAt (slots outer ps) κs) (outer-vals κs ps a)) g)
     pass-all t E [] a bs are = pass0 t
     pass-all t E (p ∷ ps) a bs are = step (λ s. fsplit t $ pass1 t (init t 0 refl (typed-one 𝓤 H A W κs p (a .0) (are .0))) $ move t (1 ∷ []) $ pass-all t E ps (a .1) (bs .1) (are .1) $ move t (1 ∷ 0 ∷ []) $ fjoin t $ s)
 
@@ -91,7 +91,7 @@ module _ {M : Type 1} {𝓤 : URA M} {H : Heap 𝓤} {A : Atoms 𝓤} {K : Type 
           lends-all t ps (a .1) (bs .1) (cs .1 .1) (are .1) (next f) (next (next g)) $ put-three-back t $ s)
 
       pub reads-all : {Γ : List (Item 𝓤)} {i j : ℕ} → K → (ps : List (Passed n)) (a : Values κs ps) (bs : Blocks (tys ps)) (cs : Blocks (temps ps)) → Stand E i (tys ps) bs → Stand E j (temps ps) cs
-          → Opds K W (‵ (cells (tys ps) bs (words κs ps a)) ∷ ‵ (cells (temps ps) cs (temp-words κs ps a)) ∷ Γ) E (operands i j ps) (flat (typesAt (inners ps) (κs .1)) (inner-vals κs ps a))
+          → Opds K W (‵ (cells (tys ps) bs (words κs ps a)) ∷ ‵ (cells (temps ps) cs (temp-words κs ps a)) ∷ Γ) E (operands i j ps) (flat (typesAt (slots inner ps) (κs .1)) (inner-vals κs ps a))
       reads-all t [] a bs cs f g = no-more t
       reads-all t (copied c ∷ ps) a bs cs f g = as-if t (λ G. aside t) (λ G. put-back t) (and-then t (load t (near t (here f) (stop t)) (look t 2 refl)) (reads-all t ps (a .1) (bs .1) cs (next f) g))
       reads-all t (buffer k ok ∷ ps) a bs cs f g = as-if t (λ G. aside-three t) (λ G. put-three-back t) (and-then t (load t (near t (here (next g)) (stop t)) (look t 4 refl)) (reads-all t ps (a .1) (bs .1) (cs .1 .1) (next f) (next (next g))))

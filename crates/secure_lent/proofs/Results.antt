@@ -1,11 +1,11 @@
 -- What the calls by value return, as `Lending.antt`'s `Result`: where the session and the answer stand in it.
 -- Assumes nothing.
-use mathlib.Core.Path.{refl, subst}
+use mathlib.Core.Path.{refl}
 use mathlib.Core.List.{[], _∷_}
 use mir.Syntax.{tyUnit, place, field, copy, opdUnit, rvOpd, aggregate}
 use mir.Val.{vunit}
-use types.Run.{stop, fld, load, of-opd, and-then, no-more, unit-lit}
-use types.Part.{agg, sub, look-in}
+use types.Run.{stop, load, of-opd, and-then, no-more, unit-lit}
+use types.Part.{agg, look-in}
 use denote.Laws.{Is}
 use denote.Builtin.{unit}
 use denote.Plain.{nothing-tells, nothing-lawful, nothing-makes}
