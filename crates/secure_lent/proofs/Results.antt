@@ -6,12 +6,10 @@ use mir.Syntax.{tyUnit, place, field, copy, opdUnit, rvOpd, aggregate}
 use mir.Val.{vunit}
 use types.Run.{stop, load, of-opd, and-then, no-more, unit-lit}
 use types.Part.{agg, look-in}
-use denote.Laws.{Is}
 use denote.Builtin.{unit}
 use denote.Plain.{nothing-tells, nothing-lawful, nothing-makes}
 use denote.Struct.Laws as LL
 use denote.Enum.Laws as EL
-use Rattle.secure_session.specs.declared.session.SteppedBlock.{SteppedBlock}
 use Rattle.secure_session.proofs.session.Session as T
 use Rattle.secure_session.proofs.session.Session.Laws as T′
 use Rattle.secure_session.proofs.session.Outcome as O
@@ -22,10 +20,8 @@ use Rattle.secure_session.proofs.session.SteppedBlock as B
 use Rattle.secure_session.proofs.session.SteppedBlock.Laws as B′
 use Rattle.secure_session.proofs.session.BlockAnswer as N
 use Rattle.secure_session.proofs.session.BlockAnswer.Laws as N′
-use Rattle.secure_seal.specs.declared.frame.Sealed.{Sealed}
 use Rattle.secure_seal.proofs.frame.Sealed as D
 use Rattle.secure_seal.proofs.frame.Sealed.Laws as D′
-use Rattle.secure_unseal.specs.declared.frame.Unsealed.{Unsealed}
 use Rattle.secure_unseal.proofs.frame.Unsealed as U
 use Rattle.secure_unseal.proofs.frame.Unsealed.Laws as U′
 use Rattle.secure_lent.proofs.lent.SealedLent as L
@@ -88,12 +84,6 @@ with-outcome = record {
 abbrev pub a-block-answer : Datum N.the-row N′.mir
 a-block-answer = a-struct N.the-type N′.the-laws N′.lowers
 
-pub block-answer-is : (r : SteppedBlock) → Is B.the-row r (B′.lowered r ∷ []) → Is N.the-row (record { outcome = r .outcome; block = r .block }) (N′.lowered (record { outcome = r .outcome; block = r .block }) ∷ [])
-block-answer-is r is =
-    let w = LL.owed B.the-type B′.the-laws r _ is in
-    let p = LL.owes N.the-type N′.the-laws (record { outcome = r .outcome; block = r .block }) (w .0, (w .1 .0, tt)) in
-    own-value a-block-answer (record { outcome = r .outcome; block = r .block }) _ p
-
 abbrev pub with-block : Result B.the-row N.the-row B′.mir N′.mir
 with-block = record {
   whole = a-struct B.the-type B′.the-laws B′.lowers;
@@ -103,7 +93,7 @@ with-block = record {
   both = λ a s. record { outcome = a .outcome; block = a .block; session = s };
   apart = λ r. refl;
   session-is = λ r is. own-value a-session (r .session) _ (LL.owed B.the-type B′.the-laws r _ is .1 .1 .0);
-  answer-is = block-answer-is;
+  answer-is = λ r is. let w = LL.owed B.the-type B′.the-laws r _ is in own-value a-block-answer (record { outcome = r .outcome; block = r .block }) _ (LL.owes N.the-type N′.the-laws (record { outcome = r .outcome; block = r .block }) (w .0, (w .1 .0, tt)));
   makes = λ 𝓤 H A W. LL.makes N.the-type N′.the-plain 𝓤 H A;
   session-at = λ i. copy (place i (field 2 ∷ []));
   answer-at = λ i. aggregate (copy (place i (field 0 ∷ [])) ∷ copy (place i (field 1 ∷ [])) ∷ []);
@@ -115,12 +105,6 @@ with-block = record {
 abbrev pub a-sealed-answer : Datum L.the-row L′.mir
 a-sealed-answer = a-struct L.the-type L′.the-laws L′.lowers
 
-pub sealed-answer-is : (r : Sealed) → Is D.the-row r (D′.lowered r ∷ []) → Is L.the-row (record { answer = r .answer; calls = r .calls }) (L′.lowered (record { answer = r .answer; calls = r .calls }) ∷ [])
-sealed-answer-is r is =
-    let w = LL.owed D.the-type D′.the-laws r _ is in
-    let p = LL.owes L.the-type L′.the-laws (record { answer = r .answer; calls = r .calls }) (w .0, (w .1 .0, tt)) in
-    own-value a-sealed-answer (record { answer = r .answer; calls = r .calls }) _ p
-
 abbrev pub with-length : Result D.the-row L.the-row D′.mir L′.mir
 with-length = record {
   whole = a-struct D.the-type D′.the-laws D′.lowers;
@@ -130,7 +114,7 @@ with-length = record {
   both = λ a s. record { answer = a .answer; calls = a .calls; session = s };
   apart = λ r. refl;
   session-is = λ r is. own-value a-session (r .session) _ (LL.owed D.the-type D′.the-laws r _ is .1 .1 .0);
-  answer-is = sealed-answer-is;
+  answer-is = λ r is. let w = LL.owed D.the-type D′.the-laws r _ is in own-value a-sealed-answer (record { answer = r .answer; calls = r .calls }) _ (LL.owes L.the-type L′.the-laws (record { answer = r .answer; calls = r .calls }) (w .0, (w .1 .0, tt)));
   makes = λ 𝓤 H A W. LL.makes L.the-type L′.the-plain 𝓤 H A;
   session-at = λ i. copy (place i (field 2 ∷ []));
   answer-at = λ i. aggregate (copy (place i (field 0 ∷ [])) ∷ copy (place i (field 1 ∷ [])) ∷ []);
@@ -142,12 +126,6 @@ with-length = record {
 abbrev pub a-unsealed-answer : Datum P.the-row P′.mir
 a-unsealed-answer = a-struct P.the-type P′.the-laws P′.lowers
 
-pub unsealed-answer-is : (r : Unsealed) → Is U.the-row r (U′.lowered r ∷ []) → Is P.the-row (record { answer = r .answer; calls = r .calls }) (P′.lowered (record { answer = r .answer; calls = r .calls }) ∷ [])
-unsealed-answer-is r is =
-    let w = LL.owed U.the-type U′.the-laws r _ is in
-    let p = LL.owes P.the-type P′.the-laws (record { answer = r .answer; calls = r .calls }) (w .0, (w .1 .0, tt)) in
-    own-value a-unsealed-answer (record { answer = r .answer; calls = r .calls }) _ p
-
 abbrev pub with-place : Result U.the-row P.the-row U′.mir P′.mir
 with-place = record {
   whole = a-struct U.the-type U′.the-laws U′.lowers;
@@ -157,7 +135,7 @@ with-place = record {
   both = λ a s. record { answer = a .answer; calls = a .calls; session = s };
   apart = λ r. refl;
   session-is = λ r is. own-value a-session (r .session) _ (LL.owed U.the-type U′.the-laws r _ is .1 .1 .0);
-  answer-is = unsealed-answer-is;
+  answer-is = λ r is. let w = LL.owed U.the-type U′.the-laws r _ is in own-value a-unsealed-answer (record { answer = r .answer; calls = r .calls }) _ (LL.owes P.the-type P′.the-laws (record { answer = r .answer; calls = r .calls }) (w .0, (w .1 .0, tt)));
   makes = λ 𝓤 H A W. LL.makes P.the-type P′.the-plain 𝓤 H A;
   session-at = λ i. copy (place i (field 2 ∷ []));
   answer-at = λ i. aggregate (copy (place i (field 0 ∷ [])) ∷ copy (place i (field 1 ∷ [])) ∷ []);
