@@ -2,6 +2,8 @@
 --     Result           what a call by value returns, and where the session and the answer stand in it
 --     takes            the session's borrow is opened, and the session is copied to a local
 --     stores           a session is stored where the lent one was, and the borrow is closed at it
+--     calls-stores     the call, the session stored, and the answer
+--     near, reads-field    a place in a local, and a field of a struct in a local
 -- The rest of the context, and how the locals are numbered, is the caller's. Assumes nothing.
 use mathlib.Core.Path.{_≡_, refl, sym, ap, subst}
 use Prim.Native.Nat.{ℕ}

@@ -57,14 +57,14 @@ module _ {M : Type 1} {𝓤 : URA M} {H : Heap 𝓤} {A : Atoms 𝓤} {K : Type 
   as-if t {E = E} {xs} {vs} apart together os = record { go = λ Kt h. (apart (prop (evalOpds 𝓤 H E xs Kt)) $ record { prf = os .go Kt ((together (prop (Kt vs)) $ record { prf = h }) .prf) }) .prf }
 
   module _ {Γ : List (Item 𝓤)} {G : Goal 𝓤 H} where
-    -- the first of two parts, P of the one entry, is set aside, and put back
+    -- the first part of the first entry is set aside, and put back
     aside : K → {P Ps Q : Fml} → Step K W (‵ Ps ∷ ‵ Q ∷ ‵ P ∷ Γ) G (‵ (fsep P Ps) ∷ ‵ Q ∷ Γ) G
     aside t = step (λ s. fsplit t $ move t (1 ∷ 2 ∷ []) $ s)
 
     put-back : K → {P Ps Q : Fml} → Step K W (‵ (fsep P Ps) ∷ ‵ Q ∷ Γ) G (‵ Ps ∷ ‵ Q ∷ ‵ P ∷ Γ) G
     put-back t = step (λ s. move t (2 ∷ 0 ∷ []) $ fjoin t $ s)
 
-    -- and with it the first two parts of the other entry
+    -- and with it the first two parts of the second entry
     aside-three : K → {P Ps Q₁ Q₂ Qs : Fml} → Step K W (‵ Ps ∷ ‵ Qs ∷ ‵ P ∷ ‵ Q₁ ∷ ‵ Q₂ ∷ Γ) G (‵ (fsep P Ps) ∷ ‵ (fsep Q₁ (fsep Q₂ Qs)) ∷ Γ) G
     aside-three t = step (λ s. move t (1 ∷ []) $ fsplit3 t $ move t (3 ∷ []) $ fsplit t $ move t (1 ∷ 4 ∷ 0 ∷ 2 ∷ 3 ∷ []) $ s)
 

@@ -1,4 +1,4 @@
--- The walk of a call on a session that is lent, whatever else it is passed (`Passed.antt`) and whatever it answers (`Results.antt`).
+-- The walk of a call on a session that is lent, whatever else it is passed (`Passed.antt`) and whatever it answers (`Results.antt`). A walk names an entry of its context by its place, so all the other parameters are one entry.
 --     lent             the wrapper's MIR, with the callee's key k. A wrapper's own `code.function` is this by computation
 --     Φ                what both contracts say, of the session at entry, what is passed, and the answer with the session after it
 --     meets            where the callee meets `Callee`, the wrapper meets its own contract
@@ -60,7 +60,7 @@ module _ {n : ℕ} (ps : List (Passed n)) {S R : RattleType} {σ ρ : Ty} (B : R
   abbrev pub Callee : (H : Heap 𝓤) (A : Atoms 𝓤) → Contract 𝓤
   Callee H A = tripleOf 𝓤 H A (by-value .signature) (closing 𝓤 H A by-value callee)
 
-  -- the locals: the answer, the session's reference, the other parameters, then these
+  -- the locals: the answer, the session's reference, the other parameters; then what the callee returns, the session's copy, and what is lent again
   abbrev whole : ℕ
   whole = past (tys ps) 2
 
@@ -101,7 +101,7 @@ module _ {n : ℕ} (ps : List (Passed n)) {S R : RattleType} {σ ρ : Ty} (B : R
 
   module _ (H : Heap 𝓤) (A : Atoms 𝓤) (W : Given 𝓤 H A) (κs : Lfts (suc n)) (qs : Shares (suc n)) (x : RefT Session) (a : Values κs ps) where
     abbrev bound : walkOf 𝓤 H A ended stayed clauses .Ghost
-    bound = ((κs, qs, tt, (x, a), (ptr-vals x, (outer-vals κs ps a))), tt)
+    bound = ((κs, qs, tt, (x, a), (ptr-vals x, outer-vals κs ps a)), tt)
 
     abbrev Post : Val → SProp 𝓤
     Post = walkOf 𝓤 H A ended stayed clauses .post bound
@@ -163,9 +163,9 @@ module _ {n : ℕ} (ps : List (Passed n)) {S R : RattleType} {σ ρ : Ty} (B : R
         owned ! R (Is R) (B .makes 𝓤 H A W) (B .answer r) _ (B .answer-is r is) $ move ! (1 ∷ 0 ∷ []) $ done !)
 
     module _ (C : Calls 𝓤 H) (Λ : Loops 𝓤 H) (fm : FmC 𝓤 H (W .laws) C) (known : Triple 𝓤 (C k) (Callee H A)) where
-      walk : Related κs ps a → ent 𝓤 (onEntry 𝓤 H A (ended .signature) κs qs (x, a) (ptr-vals x, (outer-vals κs ps a))) (WpFn 𝓤 H C Λ lent (flat (typesAt (ended .signature .params) κs) (ptr-vals x, (outer-vals κs ps a))) Post)
+      walk : Related κs ps a → ent 𝓤 (onEntry 𝓤 H A (ended .signature) κs qs (x, a) (ptr-vals x, outer-vals κs ps a)) (WpFn 𝓤 H C Λ lent (flat (typesAt (ended .signature .params) κs) (ptr-vals x, outer-vals κs ps a)) Post)
       walk are =
-          qed W ((Token ⊛ raw Tokens) ∷ ‵ (owns (typesAt (ended .signature .params) κs) (x, a) (ptr-vals x, (outer-vals κs ps a))) ∷ []) ∵ enter ! C Λ lent (flat (typesAt (ended .signature .params) κs) (ptr-vals x, (outer-vals κs ps a))) _ $
+          qed W ((Token ⊛ raw Tokens) ∷ ‵ (owns (typesAt (ended .signature .params) κs) (x, a) (ptr-vals x, outer-vals κs ps a)) ∷ []) ∵ enter ! C Λ lent (flat (typesAt (ended .signature .params) κs) (ptr-vals x, outer-vals κs ps a)) _ $
           alloc1 ! (λ l₀. alloc1 ! (λ l₁. alloc-all ! (tys ps) (λ bs. alloc1 ! (λ m. alloc1 ! (λ s. alloc-all ! (temps ps) (λ cs. alloc0 ! $ params1 ! $
           pass1 ! (init ! 8 refl (tt, tt)) $ move ! (6 ∷ []) $ pass-all κs ! (after m s cs) ps a bs are $
           -- what is owned is taken apart
