@@ -3,7 +3,7 @@ ghost use mathlib.Core.Path.{_≡_};
 ghost use Rattle.laws.specs.Bytes.{zeros};
 ghost use Rattle.refusal.specs.Paper.{refusalOf};
 ghost use Rattle.secure_session.specs.declared.session.End.the-variants.{Controller, Reader};
-ghost use Rattle.secure_session.specs.Session.{endNumber, stateNumber, fresh};
+ghost use Rattle.secure_session.specs.Session.{fresh};
 ghost use Rattle.secure_session.specs.Handshake.{challengeOf, receiveCcryptOf, serverCryptogramOf, initialRmacOf, confirmOf, receiveChallengeOf, receiveScryptOf, stepped};
 ghost use Rattle.ffi.specs.Sessions.{endArg, stateArg, sessionWith, sessionArg, endRead, stateRead, taken, cSession, cWiped, cOutcome, cStepped, cBlockAnswer, toldBlock, toldAnswer, noStep, noSteppedBlock, steppedArg, steppedBlockArg, blockAnswerArg};
 use super::answer::CAnswer;
@@ -22,6 +22,8 @@ use secure_session::Session;
 use secure_session::State;
 use secure_session::Stepped;
 use secure_session::SteppedBlock;
+use secure_session::end_number;
+use secure_session::state_number;
 
 // end: 0 controller, 1 reader. state: 0 to 3, from Disconnected to Secure.
 #[repr(C)]
@@ -149,26 +151,6 @@ pub(crate) fn take(c: CSession) -> Taken
             StateRead::Refused(e) => not_taken(c, e),
         },
         EndRead::Refused(e) => not_taken(c, e),
-    }
-}
-
-fn end_number(e: End) -> u8
-    ensures { λ r. ⌜ r ≡ endNumber e ⌝ }
-{
-    match e {
-        End::Controller => 0,
-        End::Reader => 1,
-    }
-}
-
-fn state_number(t: State) -> u8
-    ensures { λ r. ⌜ r ≡ stateNumber t ⌝ }
-{
-    match t {
-        State::Disconnected => 0,
-        State::Challenged => 1,
-        State::Cryptogrammed => 2,
-        State::Secure => 3,
     }
 }
 

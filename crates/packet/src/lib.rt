@@ -17,6 +17,7 @@ pub use packet_head::ScsType;
 pub use packet_head::Sqn;
 pub use packet_head::SqnAnswer;
 pub use packet_head::Trailer;
+pub use packet_head::trailer_len;
 pub use packet_parse::BlockPart;
 pub use packet_parse::FrameHead;
 pub use packet_parse::HeadAnswer;

@@ -4,13 +4,13 @@ ghost use mathlib.Core.Bool.{cond};
 ghost use Prim.Native.Nat.{_≤_, _<_, _^_};
 ghost use lib.ListN.{length};
 ghost use Rattle.packet_head.specs.Header.{control};
-ghost use Rattle.packet_head.specs.Trailer.{trailerLen};
 ghost use Rattle.packet_build.specs.Build.{blockOf, differ, testOf};
 ghost use Rattle.packet_build.specs.Tested.{tested, withCtrl, partsTest};
 use super::codec::BuildBlock;
 use super::codec::PacketBuilder;
 use packet_head::ControlByte;
 use packet_head::EncodedAnswer;
+use packet_head::trailer_len;
 use refusal::Refusal;
 
 // How long the frame is, and its control byte.
@@ -30,12 +30,6 @@ fn if_on(on: bool, n: usize) -> usize
     ensures { λ r. ⌜ (r ≡ cond on n 0) × (r ≤ n) ⌝ }
 {
     if on { n } else { 0 }
-}
-
-fn trailer_len(crc: bool) -> usize
-    ensures { λ r. ⌜ (r ≡ trailerLen crc) × (r ≤ 2) ⌝ }
-{
-    if crc { 2 } else { 1 }
 }
 
 // The tests in the paper's order: mac, block and body are the lengths of the MAC, the block's data and the data, have that of the buffer.

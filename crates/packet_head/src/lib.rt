@@ -15,3 +15,4 @@ pub use scb::ScbAnswer;
 pub use scb::ScsAnswer;
 pub use scb::ScsType;
 pub use trailer::Trailer;
+pub use trailer::trailer_len;

@@ -1,6 +1,7 @@
 // The end of a frame, by its kind.
 ghost use mathlib.Core.Path.{_≡_};
-ghost use Rattle.packet_head.specs.Trailer.{tail, isCrc};
+ghost use Prim.Native.Nat.{_≤_};
+ghost use Rattle.packet_head.specs.Trailer.{tail, isCrc, trailerLen};
 
 pub enum Trailer {
     Checksum(u8),
@@ -16,4 +17,11 @@ impl Trailer {
             Trailer::Crc(_) => true,
         }
     }
+}
+
+// How many bytes a trailer has.
+pub fn trailer_len(crc: bool) -> usize
+    ensures { λ r. ⌜ (r ≡ trailerLen crc) × (r ≤ 2) × (1 ≤ r) ⌝ }
+{
+    if crc { 2 } else { 1 }
 }

@@ -4,7 +4,7 @@ ghost use mathlib.Core.List.{[], _∷_};
 ghost use Prim.Native.Nat.{_≤_};
 ghost use Rattle.laws.specs.Answer.{Answer.refused};
 ghost use Rattle.packet_head.specs.Header.{control};
-ghost use Rattle.packet_head.specs.Trailer.{macLen, trailerLen};
+ghost use Rattle.packet_head.specs.Trailer.{macLen};
 ghost use Rattle.packet_parse.specs.Frame.{macPlace, macAt, blockPlace, headOf, headAnswer, partsOf, frameOf, parseOf, parsed};
 use super::trailing::TrailerAnswer;
 use super::trailing::check;
@@ -16,6 +16,7 @@ use packet_head::Scb;
 use packet_head::ScbAnswer;
 use packet_head::ScsType;
 use packet_head::Trailer;
+use packet_head::trailer_len;
 use refusal::Refusal;
 
 // What the first five bytes say.
@@ -67,12 +68,6 @@ fn mac_len(mac: bool) -> usize
     ensures { λ r. ⌜ (r ≡ macLen mac) × (r ≤ 4) ⌝ }
 {
     if mac { 4 } else { 0 }
-}
-
-fn trailer_len(crc: bool) -> usize
-    ensures { λ r. ⌜ (r ≡ trailerLen crc) × (r ≤ 2) × (1 ≤ r) ⌝ }
-{
-    if crc { 2 } else { 1 }
 }
 
 fn mac_part(mac: bool, at: usize) -> MacPart

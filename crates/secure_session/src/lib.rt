@@ -11,3 +11,5 @@ pub use session::Session;
 pub use session::State;
 pub use session::Stepped;
 pub use session::SteppedBlock;
+pub use session::end_number;
+pub use session::state_number;

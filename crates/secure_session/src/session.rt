@@ -60,7 +60,8 @@ pub struct KeysAnswer {
     pub keys: SessionKeys,
 }
 
-fn end_number(e: End) -> u8
+// The numbers that a session's end and state have outside of this language.
+pub fn end_number(e: End) -> u8
     ensures { λ r. ⌜ r ≡ endNumber e ⌝ }
 {
     match e {
@@ -69,7 +70,7 @@ fn end_number(e: End) -> u8
     }
 }
 
-pub(crate) fn state_number(t: State) -> u8
+pub fn state_number(t: State) -> u8
     ensures { λ r. ⌜ r ≡ stateNumber t ⌝ }
 {
     match t {
