@@ -2,14 +2,15 @@
 -- Assumes nothing.
 use mathlib.Core.Path.{_≡_, refl, sym, ap, ap₂, _∙_}
 use mathlib.Core.List.{List, map}
-use Prim.Native.Nat.{ℕ, _%_, _^_, _<_}
+use Prim.Native.Nat.{ℕ, _<_}
 use lib.Bits.{bitXor}
-use Rattle.laws.specs.Bytes.{Bytes}
+use lib.ListN.{getD}
+use Rattle.laws.specs.Bytes.{Bytes, xorl}
 use Rattle.aes_field.specs.Field.{_⊕_, xtime}
 use Rattle.aes_field.specs.Packed.{packed, unpacked, columns}
 use Rattle.aes_field.proofs.Sums.{⊕-assoc, ⊕-lt}
-use Rattle.aes_field.proofs.Linear.{mixByte, unmixByte, sums, mixed, times2, times3, times9, times11, times13, times14, xtime-⊕, xtime-lt, •-lt, ⊕-back}
-use Rattle.aes_field.proofs.Packing.{eight, eight-bytes, byte, after, packed-xor, packed-unpacked, unpacked-packed, unpacked-bytes}
+use Rattle.aes_field.proofs.Linear.{mixByte, unmixByte, sums, mixed, times2, times3, times9, times11, times13, times14, xtime-⊕, xtime-lt, ⊕-back}
+use Rattle.aes_field.proofs.Packing.{eight, eight-bytes, map-bytes, unpacked-xor, unpacked-packed, unpacked-bytes}
 
 -- ---- a byte of each
 
@@ -39,99 +40,58 @@ unmix-byte a b c d ha hb hc hd =
 
 -- ---- two packed columns
 
-module _ (x : ℕ) (h : x < 2 ^ 64) where
-  abbrev g : ℕ → ℕ
-  g i = after x i % 256
+-- F of bytes is a byte
+abbrev Closed : (ℕ → ℕ → ℕ → ℕ → ℕ) → Type 0
+Closed F = (a b c d : ℕ) → a < 256 → b < 256 → c < 256 → d < 256 → F a b c d < 256
 
-  below-lt : (i : ℕ) → g i < 256
-  below-lt i = byte (after x i)
+columns-bytes : (F : ℕ → ℕ → ℕ → ℕ → ℕ) → Closed F → (l : List ℕ) → Bytes l → Bytes (columns F l)
+unfolding columns
+columns-bytes F h l b =
+    let at : (p q r s : ℕ) → F (getD l p 0) (getD l q 0) (getD l r 0) (getD l s 0) < 256 =
+    λ p q r s. h (getD l p 0) (getD l q 0) (getD l r 0) (getD l s 0) (b p) (b q) (b r) (b s) in
+    eight-bytes (at 0 1 2 3) (at 1 2 3 0) (at 2 3 0 1) (at 3 0 1 2) (at 4 5 6 7) (at 5 6 7 4) (at 6 7 4 5) (at 7 4 5 6)
 
-  -- the sums of each byte and the one below it
-  abbrev pairs : List ℕ
-  pairs = eight (g 0 ⊕ g 1) (g 1 ⊕ g 2) (g 2 ⊕ g 3) (g 3 ⊕ g 0) (g 4 ⊕ g 5) (g 5 ⊕ g 6) (g 6 ⊕ g 7) (g 7 ⊕ g 4)
+columns-same : (F G : ℕ → ℕ → ℕ → ℕ → ℕ) → ((a b c d : ℕ) → a < 256 → b < 256 → c < 256 → d < 256 → F a b c d ≡ G a b c d)
+    → (l : List ℕ) → Bytes l → columns F l ≡ columns G l
+unfolding columns
+columns-same F G e l b =
+    let at : (p q r s : ℕ) → F (getD l p 0) (getD l q 0) (getD l r 0) (getD l s 0) ≡ G (getD l p 0) (getD l q 0) (getD l r 0) (getD l s 0) =
+    λ p q r s. e (getD l p 0) (getD l q 0) (getD l r 0) (getD l s 0) (b p) (b q) (b r) (b s) in
+    (λ i. eight (at 0 1 2 3 i) (at 1 2 3 0 i) (at 2 3 0 1 i) (at 3 0 1 2 i) (at 4 5 6 7 i) (at 5 6 7 4 i) (at 6 7 4 5 i) (at 7 4 5 6 i))
 
-  lt2 : (i j : ℕ) → g i ⊕ g j < 256
-  lt2 i j = ⊕-lt (below-lt i) (below-lt j)
+-- the bytes of the columns of z turned, and of x times each byte of z
+turned : (F : ℕ → ℕ → ℕ → ℕ → ℕ) → Closed F → (y z : ℕ) → y ≡ packed (columns F (unpacked 8 z)) → unpacked 8 y ≡ columns F (unpacked 8 z)
+unfolding columns
+turned F h y z e = ap (unpacked 8) e ∙ unpacked-packed (columns F (unpacked 8 z)) (columns-bytes F h (unpacked 8 z) (unpacked-bytes 8 z))
 
-  pairs-bytes : Bytes pairs
-  pairs-bytes = eight-bytes (lt2 0 1) (lt2 1 2) (lt2 2 3) (lt2 3 0) (lt2 4 5) (lt2 5 6) (lt2 6 7) (lt2 7 4)
+doubled : (y z : ℕ) → y ≡ packed (map xtime (unpacked 8 z)) → unpacked 8 y ≡ map xtime (unpacked 8 z)
+unfolding unpacked
+doubled y z e = ap (unpacked 8) e ∙ unpacked-packed (map xtime (unpacked 8 z)) (map-bytes xtime (λ a l. xtime-lt l) (unpacked 8 z) (unpacked-bytes 8 z))
 
-  turned-bytes : Bytes (columns (λ a b c d. b) (unpacked 8 x))
-  unfolding unpacked columns
-  turned-bytes = eight-bytes (below-lt 1) (below-lt 2) (below-lt 3) (below-lt 0) (below-lt 5) (below-lt 6) (below-lt 7) (below-lt 4)
+module _ (x : ℕ) where
+  abbrev l : List ℕ
+  l = unpacked 8 x
 
-  mb : (i j k l : ℕ) → xtime (g i ⊕ g j) ⊕ g j ⊕ (g k ⊕ g l) ≡ mixByte (g i) (g j) (g k) (g l)
-  mb i j k l = mix-byte (g i) (g j) (g k) (g l) (below-lt i) (below-lt j)
-
-  lx : (i j : ℕ) → xtime (g i ⊕ g j) < 256
-  lx i j = xtime-lt (lt2 i j)
-
-  ly : (i j : ℕ) → xtime (g i ⊕ g j) ⊕ g j < 256
-  ly i j = ⊕-lt (lx i j) (below-lt j)
-
-  lm : (i j k l : ℕ) → mixByte (g i) (g j) (g k) (g l) < 256
-  lm i j k l = ⊕-lt (⊕-lt (⊕-lt (•-lt 2 (below-lt i)) (•-lt 3 (below-lt j))) (below-lt k)) (below-lt l)
-
-  pub mix-two : (y z p q : ℕ) → y ≡ packed (columns (λ a b c d. b) (unpacked 8 x)) → z ≡ bitXor x y
+  pub mix-two : (y z p q : ℕ) → y ≡ packed (columns (λ a b c d. b) l) → z ≡ bitXor x y
       → p ≡ packed (map xtime (unpacked 8 z)) → q ≡ packed (columns (λ a b c d. c) (unpacked 8 z))
-      → unpacked 8 (bitXor (bitXor p y) q) ≡ columns mixByte (unpacked 8 x)
-  unfolding unpacked columns _⊕_
+      → unpacked 8 (bitXor (bitXor p y) q) ≡ columns mixByte l
+  unfolding unpacked columns xorl _⊕_
   mix-two y z p q ey ez ep eq =
-      let zs : unpacked 8 z ≡ pairs =
-      ap (unpacked 8) (ez ∙ ap₂ bitXor (sym (packed-unpacked 8 x h)) ey ∙ packed-xor (unpacked 8 x) (columns (λ a b c d. b) (unpacked 8 x)) refl (unpacked-bytes 8 x) turned-bytes)
-      ∙ unpacked-packed pairs pairs-bytes in
-      ap (unpacked 8)
-      (ap₂ bitXor (ap₂ bitXor (ep ∙ ap (λ (l : List ℕ). packed (map xtime l)) zs) ey) (eq ∙ ap (λ (l : List ℕ). packed (columns (λ a b c d. c) l)) zs)
-      ∙ ap (λ (v : ℕ). bitXor v (packed (columns (λ a b c d. c) pairs)))
-      (packed-xor (map xtime pairs) (columns (λ a b c d. b) (unpacked 8 x)) refl
-      (eight-bytes (lx 0 1) (lx 1 2) (lx 2 3) (lx 3 0) (lx 4 5) (lx 5 6) (lx 6 7) (lx 7 4)) turned-bytes)
-      ∙ packed-xor
-      (eight (xtime (g 0 ⊕ g 1) ⊕ g 1) (xtime (g 1 ⊕ g 2) ⊕ g 2) (xtime (g 2 ⊕ g 3) ⊕ g 3) (xtime (g 3 ⊕ g 0) ⊕ g 0)
-      (xtime (g 4 ⊕ g 5) ⊕ g 5) (xtime (g 5 ⊕ g 6) ⊕ g 6) (xtime (g 6 ⊕ g 7) ⊕ g 7) (xtime (g 7 ⊕ g 4) ⊕ g 4))
-      (columns (λ a b c d. c) pairs) refl
-      (eight-bytes (ly 0 1) (ly 1 2) (ly 2 3) (ly 3 0) (ly 4 5) (ly 5 6) (ly 6 7) (ly 7 4))
-      (eight-bytes (lt2 2 3) (lt2 3 0) (lt2 0 1) (lt2 1 2) (lt2 6 7) (lt2 7 4) (lt2 4 5) (lt2 5 6))
-      ∙ (λ i. packed (eight (mb 0 1 2 3 i) (mb 1 2 3 0 i) (mb 2 3 0 1 i) (mb 3 0 1 2 i) (mb 4 5 6 7 i) (mb 5 6 7 4 i) (mb 6 7 4 5 i) (mb 7 4 5 6 i))))
-      ∙ unpacked-packed (columns mixByte (unpacked 8 x)) (eight-bytes (lm 0 1 2 3) (lm 1 2 3 0) (lm 2 3 0 1) (lm 3 0 1 2) (lm 4 5 6 7) (lm 5 6 7 4) (lm 6 7 4 5) (lm 7 4 5 6))
+      let ys : unpacked 8 y ≡ columns (λ a b c d. b) l = turned (λ a b c d. b) (λ a b c d ha hb hc hd. hb) y x ey in
+      let zs : unpacked 8 z ≡ columns (λ a b c d. a ⊕ b) l = ap (unpacked 8) ez ∙ unpacked-xor 8 x y ∙ ap (xorl l) ys in
+      let ps : unpacked 8 p ≡ columns (λ a b c d. xtime (a ⊕ b)) l = doubled p z ep ∙ ap (map xtime) zs in
+      let qs : unpacked 8 q ≡ columns (λ a b c d. c ⊕ d) l = turned (λ a b c d. c) (λ a b c d ha hb hc hd. hc) q z eq ∙ ap (columns (λ a b c d. c)) zs in
+      unpacked-xor 8 (bitXor p y) q ∙ ap₂ xorl (unpacked-xor 8 p y ∙ ap₂ xorl ps ys) qs
+      ∙ columns-same (λ a b c d. xtime (a ⊕ b) ⊕ b ⊕ (c ⊕ d)) mixByte (λ a b c d ha hb hc hd. mix-byte a b c d ha hb) l (unpacked-bytes 8 x)
 
-  -- ---- the inverse
-
-  turned2-bytes : Bytes (columns (λ a b c d. c) (unpacked 8 x))
-  unfolding unpacked columns
-  turned2-bytes = eight-bytes (below-lt 2) (below-lt 3) (below-lt 0) (below-lt 1) (below-lt 6) (below-lt 7) (below-lt 4) (below-lt 5)
-
-  -- the sums of each byte and the one two below it
-  abbrev across : List ℕ
-  across = eight (g 0 ⊕ g 2) (g 1 ⊕ g 3) (g 2 ⊕ g 0) (g 3 ⊕ g 1) (g 4 ⊕ g 6) (g 5 ⊕ g 7) (g 6 ⊕ g 4) (g 7 ⊕ g 5)
-
-  lf : (i j : ℕ) → xtime (xtime (g i ⊕ g j)) < 256
-  lf i j = xtime-lt (lx i j)
-
-  abbrev e : ℕ → ℕ → ℕ
-  e i j = g i ⊕ xtime (xtime (g i ⊕ g j))
-
-  le : (i j : ℕ) → e i j < 256
-  le i j = ⊕-lt (below-lt i) (lf i j)
-
-  ub : (i j k l : ℕ) → mixByte (e i k) (e j l) (e k i) (e l j) ≡ unmixByte (g i) (g j) (g k) (g l)
-  ub i j k l = unmix-byte (g i) (g j) (g k) (g l) (below-lt i) (below-lt j) (below-lt k) (below-lt l)
-
-  pub unmix-two : (y u v s r : ℕ) → y ≡ packed (columns (λ a b c d. c) (unpacked 8 x)) → u ≡ packed (map xtime (unpacked 8 (bitXor x y)))
+  pub unmix-two : (y u v s r : ℕ) → y ≡ packed (columns (λ a b c d. c) l) → u ≡ packed (map xtime (unpacked 8 (bitXor x y)))
       → v ≡ packed (map xtime (unpacked 8 u)) → s ≡ bitXor x v → unpacked 8 r ≡ columns mixByte (unpacked 8 s)
-      → unpacked 8 r ≡ columns unmixByte (unpacked 8 x)
-  unfolding unpacked columns _⊕_
+      → unpacked 8 r ≡ columns unmixByte l
+  unfolding unpacked columns xorl _⊕_
   unmix-two y u v s r ey eu ev es er =
-      let zs : unpacked 8 (bitXor x y) ≡ across =
-      ap (unpacked 8) (ap₂ bitXor (sym (packed-unpacked 8 x h)) ey ∙ packed-xor (unpacked 8 x) (columns (λ a b c d. c) (unpacked 8 x)) refl (unpacked-bytes 8 x) turned2-bytes)
-      ∙ unpacked-packed across (eight-bytes (lt2 0 2) (lt2 1 3) (lt2 2 0) (lt2 3 1) (lt2 4 6) (lt2 5 7) (lt2 6 4) (lt2 7 5)) in
-      let us : unpacked 8 u ≡ map xtime across =
-      ap (unpacked 8) (eu ∙ ap (λ (l : List ℕ). packed (map xtime l)) zs)
-      ∙ unpacked-packed (map xtime across) (eight-bytes (lx 0 2) (lx 1 3) (lx 2 0) (lx 3 1) (lx 4 6) (lx 5 7) (lx 6 4) (lx 7 5)) in
-      let ss : unpacked 8 s ≡ eight (e 0 2) (e 1 3) (e 2 0) (e 3 1) (e 4 6) (e 5 7) (e 6 4) (e 7 5) =
-      ap (unpacked 8)
-      (es ∙ ap₂ bitXor (sym (packed-unpacked 8 x h)) (ev ∙ ap (λ (l : List ℕ). packed (map xtime l)) us)
-      ∙ packed-xor (unpacked 8 x) (map xtime (map xtime across)) refl (unpacked-bytes 8 x) (eight-bytes (lf 0 2) (lf 1 3) (lf 2 0) (lf 3 1) (lf 4 6) (lf 5 7) (lf 6 4) (lf 7 5)))
-      ∙ unpacked-packed (eight (e 0 2) (e 1 3) (e 2 0) (e 3 1) (e 4 6) (e 5 7) (e 6 4) (e 7 5))
-      (eight-bytes (le 0 2) (le 1 3) (le 2 0) (le 3 1) (le 4 6) (le 5 7) (le 6 4) (le 7 5)) in
-      er ∙ ap (columns mixByte) ss
-      ∙ (λ i. eight (ub 0 1 2 3 i) (ub 1 2 3 0 i) (ub 2 3 0 1 i) (ub 3 0 1 2 i) (ub 4 5 6 7 i) (ub 5 6 7 4 i) (ub 6 7 4 5 i) (ub 7 4 5 6 i))
+      let ys : unpacked 8 y ≡ columns (λ a b c d. c) l = turned (λ a b c d. c) (λ a b c d ha hb hc hd. hc) y x ey in
+      let zs : unpacked 8 (bitXor x y) ≡ columns (λ a b c d. a ⊕ c) l = unpacked-xor 8 x y ∙ ap (xorl l) ys in
+      let us : unpacked 8 u ≡ columns (λ a b c d. xtime (a ⊕ c)) l = doubled u (bitXor x y) eu ∙ ap (map xtime) zs in
+      let vs : unpacked 8 v ≡ columns (λ a b c d. xtime (xtime (a ⊕ c))) l = doubled v u ev ∙ ap (map xtime) us in
+      let ss : unpacked 8 s ≡ columns (λ a b c d. a ⊕ xtime (xtime (a ⊕ c))) l = ap (unpacked 8) es ∙ unpacked-xor 8 x v ∙ ap (xorl l) vs in
+      er ∙ ap (columns mixByte) ss ∙ columns-same _ unmixByte unmix-byte l (unpacked-bytes 8 x)

@@ -92,7 +92,7 @@ unfolding packed
 packed-same f g e [] b = refl
 packed-same f g e (x ∷ l) b = ap₂ (λ (z y : ℕ). z * 256 + y) (packed-same f g e l (λ i. b (suc i))) (e x (b 0))
 
-map-bytes : (f : ℕ → ℕ) → ((a : ℕ) → a < 256 → f a < 256) → (l : List ℕ) → Bytes l → Bytes (map f l)
+pub map-bytes : (f : ℕ → ℕ) → ((a : ℕ) → a < 256 → f a < 256) → (l : List ℕ) → Bytes l → Bytes (map f l)
 map-bytes f h [] b = bytes-nil
 map-bytes f h (x ∷ l) b = bytes-cons (f x) (map f l) (h x (b 0)) (map-bytes f h l (λ i. b (suc i)))
 

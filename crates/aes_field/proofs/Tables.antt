@@ -5,13 +5,13 @@ use Prim.Native.Nat.{ℕ, _<_}
 use mathlib.Core.Path.{_≡_, refl, sym, ap, _∙_}
 use native.Mathlib.Nat.{zero-add}
 use mathlib.Core.List.{List, [], _∷_}
-use mathlib.Core.Bool.{Bool, true, false}
+use mathlib.Core.Bool.{Bool}
 use lib.Dec.{eqb, eqb→eq, ltb, ltb→lt, T}
 use lib.ListN.{length, getD}
 use lib.Seq.{ext-getD}
 use Rattle.laws.specs.Table.{table}
 use Rattle.laws.proofs.Fill.{length-from, getD-from}
-use Rattle.laws.proofs.Entries.{at, both, every}
+use Rattle.laws.proofs.Entries.{at, both, both-left, both-right, every}
 use Rattle.aes_field.specs.Field.{_⊕_, xtime, bitsTimes, _•_, squares, inverse}
 use Rattle.aes_field.specs.Sbox.{rotl, affine, sbox, invAffine, invSbox, SBOX, INVSBOX}
 
@@ -55,25 +55,16 @@ backward =
 
 -- ---- the rules
 
-abbrev forward-right : ℕ → ℕ → Bool
-forward-right k x = eqb x (sbox k)
+abbrev follows : (ℕ → ℕ) → ℕ → ℕ → Bool
+follows f k x = eqb x (f k)
 
-forward-all : T (every forward-right 0 forward)
+forward-all : T (every (follows sbox) 0 forward)
 unfolding _⊕_ xtime bitsTimes _•_ squares inverse rotl affine sbox
 forward-all = tt
 
-pub forward-rule : (k : ℕ) → k < 256 → getD forward k 0 ≡ sbox k
-forward-rule k h = eqb→eq (getD forward k 0) (sbox k) (at forward-right forward forward-all k h)
-
-abbrev backward-right : ℕ → ℕ → Bool
-backward-right k x = eqb x (invSbox k)
-
-backward-all : T (every backward-right 0 backward)
+backward-all : T (every (follows invSbox) 0 backward)
 unfolding _⊕_ xtime bitsTimes _•_ squares inverse rotl invAffine invSbox
 backward-all = tt
-
-pub backward-rule : (k : ℕ) → k < 256 → getD backward k 0 ≡ invSbox k
-backward-rule k h = eqb→eq (getD backward k 0) (invSbox k) (at backward-right backward backward-all k h)
 
 -- ---- a table of a function
 
@@ -85,16 +76,17 @@ look : (f : ℕ → ℕ) (k : ℕ) → k < 256 → getD (table f) k 0 ≡ f k
 unfolding table
 look f k h = getD-from f 0 256 k h ∙ ap f (zero-add k)
 
-tabled : (f : ℕ → ℕ) (l : List ℕ) → length l ≡ 256 → ((k : ℕ) → k < 256 → getD l k 0 ≡ f k) → l ≡ table f
-tabled f l e h = ext-getD 0 l (table f) (e ∙ sym (length-table f)) (λ k lt. h k (rw (← e) lt) ∙ sym (look f k (rw (← e) lt)))
+tabled : (f : ℕ → ℕ) (l : List ℕ) → length l ≡ 256 → T (every (follows f) 0 l) → l ≡ table f
+tabled f l e t =
+    ext-getD 0 l (table f) (e ∙ sym (length-table f)) (λ k lt. eqb→eq (getD l k 0) (f k) (at (follows f) l t k lt) ∙ sym (look f k (rw (← e) lt)))
 
 pub forward-table : forward ≡ SBOX
 unfolding SBOX
-forward-table = tabled sbox forward refl forward-rule
+forward-table = tabled sbox forward refl forward-all
 
 pub backward-table : backward ≡ INVSBOX
 unfolding INVSBOX
-backward-table = tabled invSbox backward refl backward-rule
+backward-table = tabled invSbox backward refl backward-all
 
 -- an entry of either table
 pub SBOX-at : (k : ℕ) → k < 256 → getD SBOX k 0 ≡ sbox k
@@ -115,14 +107,6 @@ forward-undone = tt
 
 backward-undone : T (every (undoes forward) 0 backward)
 backward-undone = tt
-
-both-left : (a b : Bool) → T (both a b) → T a
-both-left true b t = tt
-both-left false b t = t
-
-both-right : (a b : Bool) → T (both a b) → T b
-both-right true b t = t
-both-right false b t = absurd t
 
 -- what the test says of an entry
 entry : (l m : List ℕ) → T (every (undoes m) 0 l) → (k : ℕ) → k < length l → (getD l k 0 < 256) × (getD m (getD l k 0) 0 ≡ k)

@@ -10,7 +10,7 @@ use lib.ListN.{length, take, drop}
 use Rattle.laws.specs.Answer.{Answer.given}
 use Rattle.laws.specs.Blocks.{Block}
 use Rattle.laws.specs.Bytes.{compl}
-use Rattle.laws.proofs.ByteLists.{length-compl, bytes-compl}
+use Rattle.laws.proofs.BlockLists.{block-compl}
 use Rattle.secure_keys.specs.declared.crypto.SessionKeys.{SessionKeys}
 use Rattle.secure_keys.proofs.KeysLaws.{GoodKeys}
 use Rattle.secure_cipher.specs.Pad.{padData}
@@ -23,8 +23,8 @@ use Rattle.secure_session.specs.Session.{isSecure}
 use Rattle.secure_session.specs.declared.session.State.{State}
 use Rattle.secure_session.specs.declared.session.State.the-variants.{Secure}
 use Rattle.secure_seal.specs.declared.frame.Direction.{Direction}
-use Rattle.secure_seal.specs.Seal.{Asked, dataLen, sealedFrame}
-use Rattle.secure_seal.proofs.SealLaws.{Sealable, stepsFor, type-mac, type-encrypted, length-dataLen, plain-len, hidden-len, plain-data, hidden-data, length-body}
+use Rattle.secure_seal.specs.Seal.{Asked, Sealable, dataLen, sealedFrame}
+use Rattle.secure_seal.proofs.SealLaws.{stepsFor, type-mac, type-encrypted, length-dataLen, plain-len, hidden-len, plain-data, hidden-data, length-body}
 use Rattle.secure_seal.proofs.SealLaws.{data-alone, body-alone, mac-alone, reads-alone}
 use Rattle.secure_unseal.specs.Unseal.{Place, UnsealRun, unsealRun}
 use Rattle.secure_unseal.specs.Lookup.{shown}
@@ -71,7 +71,7 @@ module _ (k : SessionKeys) (v : List ℕ) (addr sqn : ℕ) (dir : Direction) (co
       → reveal (k .«s_enc») (compl v) (take (dataLen true x) (drop 8 (frame true))) ≡ record { answer = given (length x); text = padData x; steps = length x / 16 + 1 }
   revealed h =
       ap (reveal (k .«s_enc») (compl v)) (data-alone k v (asked true) hk hv h ∙ ap (λ (d : Hidden). d .bytes) (hidden-data (k .«s_enc») v x))
-      ∙ reveal-hide (k .«s_enc») (compl v) x (hk .enc) (record { size = length-compl v ∙ hv .size; bytes = bytes-compl v }) (h .payload)
+      ∙ reveal-hide (k .«s_enc») (compl v) x (hk .enc) (block-compl v (hv .size)) (h .payload)
 
   pub unseal-run-eq : (e : Bool) (s : State) → s ≡ Secure → Sealable (asked e) → (e ≡ true → dataLen e x ≤ length w) → unsealRun s k v (frame e) w ≡ opened e
   unfolding isSecure placeFor workFor

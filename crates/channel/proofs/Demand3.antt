@@ -17,14 +17,11 @@ use Rattle.channel.proofs.TalkLaws.{openFor, Heard, ReadyFrom, any-able
 
 -- ---- one conversation
 
-arrived : (s : Send) (e : Event) → Heard s e → Arrived s e
-arrived s e h = record { sealed = h .sealed; size = h .size; opened = h .opened }
-
 each-arrived : (ss : List Send) (es : List Event) → Each Heard ss es → Each Arrived ss es
 each-arrived [] [] h = tt
 each-arrived [] (e ∷ es) h = h
 each-arrived (s ∷ ss) [] h = h
-each-arrived (s ∷ ss) (e ∷ es) h = (arrived s e (h .0), each-arrived ss es (h .1))
+each-arrived (s ∷ ss) (e ∷ es) h = (h .0 .arrived, each-arrived ss es (h .1))
 
 module _ (t : Conversation) (p : Proper t) where
   ready-from : (w : End) → ReadyFrom w (handOf t .controller) (handOf t .reader)
@@ -65,7 +62,7 @@ module _ (s t : Send) (h : Agree s t) where
 
   alike : (d e : Event) → Heard s d → Heard t e → Alike s t d e
   alike d e p q = record {
-    size = p .size ∙ total-same ∙ sym (q .size);
+    size = p .arrived .size ∙ total-same ∙ sym (q .arrived .size);
     bytes = p .bytes ∙ open-same ∙ sym (q .bytes);
     sealCalls = p .sealCalls ∙ calls-same ∙ sym (q .sealCalls);
     openCalls = p .openCalls ∙ calls-same ∙ sym (q .openCalls);

@@ -7,11 +7,11 @@ use mathlib.Core.Path.{_≡_, refl, sym, ap, _∙_}
 use Prim.Native.Nat.{ℕ, _≤_, _<_}
 use native.Mathlib.Omega.{arith}
 use lib.ListN.{replicate, getD, length-replicate}
-use Rattle.laws.specs.Bytes.{zeros}
+use Rattle.laws.specs.Bytes.{Exactly, zeros}
 use Rattle.laws.proofs.ByteLists.{bytes-replicate}
 use Rattle.secure_cipher.proofs.PadLaws.{length-padData}
-use Rattle.secure_keys.specs.Keys.{Random}
 use Rattle.secure_session.specs.Session.{fresh}
+use Rattle.secure_session.specs.Apart.{Apart}
 use Rattle.secure_session.specs.declared.session.End.{End}
 use Rattle.secure_session.specs.declared.session.End.the-variants.{Controller, Reader}
 use Rattle.secure_session.specs.declared.session.Session.{Session}
@@ -42,9 +42,6 @@ wires-fit = record {
   scrypt = wire-fits 0x77 16 (omega arith);
   rmac = wire-fits 0x78 16 (omega arith);
 }
-
-random : (x : ℕ) → x < 256 → Random (replicate 8 x)
-random x h = record { size = refl; bytes = bytes-replicate 8 x h }
 
 -- ---- the sealed frames: n bytes x
 plain : End → ℕ → ℕ → Send
@@ -93,25 +90,15 @@ used e k y = record {
   chain = replicate 16 y;
 }
 
+-- between these ends; a and b are the random numbers' bytes, x stands in the encrypted payloads
+between : Session → Session → ℕ → ℕ → ℕ → Conversation
+between c r a b x = record { controller = c; reader = r; wires = wires; rndA = replicate 8 a; rndB = replicate 8 b; sends = sends x }
+
 pub one : Conversation
-one = record {
-  controller = fresh Controller (replicate 16 0x30) (zeros 8);
-  reader = fresh Reader (replicate 16 0x30) (replicate 8 1);
-  wires = wires;
-  rndA = replicate 8 2;
-  rndB = replicate 8 3;
-  sends = sends 7;
-}
+one = between (fresh Controller (replicate 16 0x30) (zeros 8)) (fresh Reader (replicate 16 0x30) (replicate 8 1)) 2 3 7
 
 pub other : Conversation
-other = record {
-  controller = used Controller (replicate 16 0x31) 0xAA;
-  reader = used Reader (replicate 16 0x31) 0xBB;
-  wires = wires;
-  rndA = replicate 8 4;
-  rndB = replicate 8 5;
-  sends = sends 8;
-}
+other = between (used Controller (replicate 16 0x31) 0xAA) (used Reader (replicate 16 0x31) 0xBB) 4 5 8
 
 -- ---- the premises
 
@@ -122,41 +109,26 @@ sends-fit x h = (
   (plain-fits Controller 0 9 (omega arith) (omega arith), (plain-fits Reader 8 9 (omega arith) (omega arith), (hidden-fits Reader 3 x (omega arith) h, tt))),
 )
 
+filled : (n x : ℕ) → x < 256 → Exactly n (replicate n x)
+filled n x h = record { size = length-replicate {A = ℕ} n x; bytes = bytes-replicate n x h }
+
+between-proper : (c r : Session) (a b x : ℕ) → Apart c r → a < 256 → b < 256 → x < 256 → Proper (between c r a b x)
+unfolding between
+between-proper c r a b x h ha hb hx = record { apart = h; wires = wires-fit; rndA = filled 8 a ha; rndB = filled 8 b hb; sends = sends-fit x hx }
+
 pub one-proper : Proper one
 unfolding one fresh
-one-proper = record {
-  apart = record {
-    controller = refl;
-    reader = refl;
-    controllerState = refl;
-    readerState = refl;
-    oneKey = refl;
-    key = record { size = refl; bytes = bytes-replicate 16 0x30 (omega arith) };
-    cuid = refl;
-  };
-  wires = wires-fit;
-  rndA = random 2 (omega arith);
-  rndB = random 3 (omega arith);
-  sends = sends-fit 7 (omega arith);
-}
+one-proper =
+    let key = filled 16 0x30 (omega arith) in
+    between-proper _ _ 2 3 7 (record { controller = refl; reader = refl; controllerState = refl; readerState = refl; oneKey = refl; key = key; cuid = refl })
+    (omega arith) (omega arith) (omega arith)
 
 pub other-proper : Proper other
 unfolding other used
-other-proper = record {
-  apart = record {
-    controller = refl;
-    reader = refl;
-    controllerState = refl;
-    readerState = refl;
-    oneKey = refl;
-    key = record { size = refl; bytes = bytes-replicate 16 0x31 (omega arith) };
-    cuid = refl;
-  };
-  wires = wires-fit;
-  rndA = random 4 (omega arith);
-  rndB = random 5 (omega arith);
-  sends = sends-fit 8 (omega arith);
-}
+other-proper =
+    let key = filled 16 0x31 (omega arith) in
+    between-proper _ _ 4 5 8 (record { controller = refl; reader = refl; controllerState = refl; readerState = refl; oneKey = refl; key = key; cuid = refl })
+    (omega arith) (omega arith) (omega arith)
 
 same : (s : Send) → Agree s s
 same s = record { who = refl; addr = refl; sqn = refl; code = refl; size = refl; encrypt = refl; plain = λ p. refl }
@@ -174,7 +146,7 @@ hidden-agree e n x y = record {
 }
 
 pub agree : Each Agree (one .sends) (other .sends)
-unfolding one other sends
+unfolding one other between sends
 agree = (hidden-agree Controller 16 7 8, (same (plain Controller 0 9), (same (plain Reader 8 9), (hidden-agree Reader 3 7 8, tt))))
 
 -- ---- they differ, and yet
@@ -193,7 +165,7 @@ pub record Differ (t u : Conversation) : Type 0 where
   pub contents : opening (t .sends) ≡ opening (u .sends) → ⊥
 
 pub differ : Differ one other
-unfolding one other fresh used sends hidden
+unfolding one other between fresh used sends hidden
 differ = record {
   key = first-byte _ _ refl refl (λ (e : 0x30 ≡ 0x31). omega arith);
   rndA = first-byte _ _ refl refl (λ (e : 2 ≡ 4). omega arith);

@@ -17,17 +17,14 @@ use Rattle.secure_session.specs.declared.session.End.{End}
 use Rattle.secure_session.specs.declared.session.End.the-variants.{Controller, Reader}
 use Rattle.secure_session.specs.declared.session.Session.{Session}
 use Rattle.secure_session.proofs.Shaken.{Ready}
-use Rattle.secure_seal.specs.Seal.{Asked, dataLen, totalOf, SealedFrame, sealedFrame, afterSeal, sealOf}
-use Rattle.secure_seal.proofs.SealLaws.{Sealable, seals, stepsFor, headWith, full-block, frame-length, frame-steps, head-alone, plain-alone}
+use Rattle.secure_seal.specs.Seal.{Asked, dataLen, totalOf, Sealable, SealedFrame, sealedFrame, afterSeal, sealOf}
+use Rattle.secure_seal.proofs.SealLaws.{seals, stepsFor, headWith, full-block, frame-length, frame-steps, head-alone, plain-alone}
 use Rattle.secure_unseal.specs.Unseal.{unsealRun, afterUnseal, unsealOf}
 use Rattle.channel.specs.Carried.{onLine}
 use Rattle.channel.specs.Talk.{Send, directionOf, askedIn, Event, showing, transfer, turn, talk}
-use Rattle.channel.specs.Demand.{Within, Fits, AllFit, encryptedLen, openBytes, Each}
+use Rattle.channel.specs.Demand.{Fits, AllFit, encryptedLen, openBytes, Each, Arrived}
 use Rattle.channel.proofs.Delivered.{placeFor, workFor, unseal-run-eq, shown-eq}
 use Rattle.channel.proofs.Ends.{ready-same, ready-other}
-
-sealable : (q : Asked) → Within q → Sealable q
-sealable q h = record { addr = h .addr; sqn = h .sqn; code = h .code; payload = h .payload; total = h .total }
 
 -- ---- what is open of a sealed frame, without a key
 unfoldable pub openFor : Bool → Asked → List ℕ
@@ -47,10 +44,8 @@ module _ (k : SessionKeys) (v : List ℕ) (q : Asked) (hk : GoodKeys k) (hv : Bl
 
 -- ---- what an event is, said without keys, random numbers and encrypted contents
 pub record Heard (s : Send) (e : Event) : Type 0 where
-  pub sealed : e .sealed ≡ given (totalOf (askedIn s))
-  pub size : length (e .frame) ≡ totalOf (askedIn s)
+  pub arrived : Arrived s e
   pub bytes : openBytes s (e .frame) ≡ openFor (s .encrypt) (askedIn s)
-  pub opened : e .opened ≡ given (s .payload)
   pub sealCalls : e .sealCalls ≡ stepsFor (s .encrypt) (length (s .payload))
   pub openCalls : e .openCalls ≡ stepsFor (s .encrypt) (length (s .payload))
 
@@ -58,11 +53,8 @@ module _ (a b : Session) (s : Send) (r : Ready a b) (g : Fits s) where
   abbrev made : SealedFrame
   made = sealedFrame (a .keys) (sendFrom a) (askedIn s)
 
-  abbrev fine : Sealable (askedIn s)
-  fine = sealable (askedIn s) (g .limits)
-
   made-length : length (made .bytes) ≡ totalOf (askedIn s)
-  made-length = frame-length (a .keys) (sendFrom a) (askedIn s) (r .good) (r .block) fine
+  made-length = frame-length (a .keys) (sendFrom a) (askedIn s) (r .good) (r .block) (g .limits)
 
   line-eq : take (totalOf (askedIn s)) (write (s .out) 0 (made .bytes)) ≡ made .bytes
   line-eq = take-write (s .out) (totalOf (askedIn s)) (made .bytes) (sym made-length)
@@ -71,7 +63,7 @@ module _ (a b : Session) (s : Send) (r : Ready a b) (g : Fits s) where
   sealed-eq : sealOf a (askedIn s) (s .out)
       ≡ record { answer = given (totalOf (askedIn s)); session = sent a (made .full); out = write (s .out) 0 (made .bytes); steps = made .steps }
   unfolding sealOf afterSeal isSecure
-  sealed-eq = rw (seals (a .state) (a .keys) (sendFrom a) (askedIn s) (s .out) (ap isSecure (r .sender)) fine (g .room))
+  sealed-eq = rw (seals (a .state) (a .keys) (sendFrom a) (askedIn s) (s .out) (ap isSecure (r .sender)) (g .limits) (g .room))
 
   -- the peer's
   opened-eq : unsealOf b (made .bytes) (s .work)
@@ -88,7 +80,7 @@ module _ (a b : Session) (s : Send) (r : Ready a b) (g : Fits s) where
       rw (
         e,
         unseal-run-eq (a .keys) (sendFrom a) (s .addr) (s .sqn) (directionOf (s .who)) (s .code) (s .payload) (s .work)
-            (r .good) (r .block) (s .encrypt) (b .state) (r .taker) fine (g .work),
+            (r .good) (r .block) (s .encrypt) (b .state) (r .taker) (g .limits) (g .work),
       )
 
   transfer-eq : transfer a b s
@@ -110,21 +102,19 @@ module _ (a b : Session) (s : Send) (r : Ready a b) (g : Fits s) where
         line-eq,
         opened-eq,
         shown-eq (a .keys) (sendFrom a) (s .addr) (s .sqn) (directionOf (s .who)) (s .code) (s .payload) (s .work)
-            (r .good) (r .block) (s .encrypt) fine (g .work),
+            (r .good) (r .block) (s .encrypt) (g .limits) (g .work),
       )
 
   pub transfer-heard : Heard s (transfer a b s .event)
   transfer-heard = rw transfer-eq (record {
-    sealed = refl;
-    size = made-length;
-    bytes = rw made-length (open-part (a .keys) (sendFrom a) (askedIn s) (r .good) (r .block) fine (s .encrypt) refl);
-    opened = refl;
-    sealCalls = frame-steps (a .keys) (sendFrom a) (askedIn s) (r .good) (r .block) fine;
+    arrived = record { sealed = refl; size = made-length; opened = refl };
+    bytes = rw made-length (open-part (a .keys) (sendFrom a) (askedIn s) (r .good) (r .block) (g .limits) (s .encrypt) refl);
+    sealCalls = frame-steps (a .keys) (sendFrom a) (askedIn s) (r .good) (r .block) (g .limits);
     openCalls = refl;
   })
 
   full-ok : Block (made .full)
-  full-ok = full-block (a .keys) (sendFrom a) (askedIn s) (r .good) (r .block) fine
+  full-ok = full-block (a .keys) (sendFrom a) (askedIn s) (r .good) (r .block) (g .limits)
 
   -- the ends after it, both ways
   pub transfer-same : Ready (transfer a b s .from) (transfer a b s .to)

@@ -1,16 +1,15 @@
 -- Demand 3 (docs/PROMISES.md): two conversations, what they agree on, and what is alike in them then. It is proved in proofs/Demand3.
 -- Assumes nothing.
-use Prim.Native.Nat.{ℕ, _+_, _-_, _≤_, _<_}
+use Prim.Native.Nat.{ℕ, _+_, _-_, _≤_}
 use mathlib.Core.Bool.{Bool, true, false}
 use mathlib.Core.List.{List, [], _∷_}
 use mathlib.Core.Path.{_≡_}
 use lib.ListN.{length, take}
 use Rattle.laws.specs.Answer.{Answer.given}
-use Rattle.laws.specs.Bytes.{Bytes}
 use Rattle.secure_keys.specs.Keys.{Random}
 use Rattle.secure_session.specs.Apart.{Apart}
 use Rattle.secure_session.specs.declared.session.Session.{Session}
-use Rattle.secure_seal.specs.Seal.{Asked, dataLen, totalOf}
+use Rattle.secure_seal.specs.Seal.{Sealable, dataLen, totalOf}
 use Rattle.channel.specs.Handshake.{Hand, Wires, WiresFit, shakeIn, Succeeded}
 use Rattle.channel.specs.Talk.{Send, askedIn, Event, talk}
 
@@ -31,17 +30,9 @@ eventsOf t = talk (handOf t .controller) (handOf t .reader) (t .sends)
 
 -- ---- its premises
 
--- bytes, a sequence number, and a total within LEN
-pub record Within (q : Asked) : Type 0 where
-  pub addr : q .addr < 256
-  pub sqn : q .sqn ≤ 3
-  pub code : q .code < 256
-  pub payload : Bytes (q .payload)
-  pub total : totalOf q ≤ 65535
-
 -- a sealed frame within limits and buffers; only encrypted data need the work buffer
 pub record Fits (s : Send) : Type 0 where
-  pub limits : Within (askedIn s)
+  pub limits : Sealable (askedIn s)
   pub room : totalOf (askedIn s) ≤ length (s .out)
   pub work : s .encrypt ≡ true → dataLen (s .encrypt) (s .payload) ≤ length (s .work)
 

@@ -6,12 +6,16 @@ use Prim.Native.Nat.{ℕ, zero, suc, _+_, _*_, _/_, _%_, _≤_}
 use native.Mathlib.Omega.{arith}
 use lib.ListN.{length, take, drop, length-append, length-take, length-drop, take-append-drop}
 use lib.Seq.{take-at, drop-at}
-use Rattle.laws.specs.Bytes.{Bytes, xorl}
+use Rattle.laws.specs.Bytes.{Bytes, xorl, compl}
 use Rattle.laws.specs.Blocks.{Block, Blocks, cut, blocks, flat}
-use Rattle.laws.proofs.ByteLists.{bytes-nil, bytes-append, bytes-take, bytes-drop, length-xorl, bytes-xorl}
+use Rattle.laws.proofs.ByteLists.{bytes-nil, bytes-append, bytes-take, bytes-drop, length-xorl, bytes-xorl, length-compl, bytes-compl}
 
 pub block-xorl : (a b : List ℕ) → Block a → Block b → Block (xorl a b)
 block-xorl a b ha hb = record { size = length-xorl a b ∙ ha .size; bytes = bytes-xorl a b (ha .bytes) (hb .bytes) }
+
+-- the complement's bytes are bytes whatever it is of
+pub block-compl : (a : List ℕ) → length a ≡ 16 → Block (compl a)
+block-compl a h = record { size = length-compl a ∙ h; bytes = bytes-compl a }
 
 pub cut-suc : (n : ℕ) (l : List ℕ) → cut (suc n) l ≡ take 16 l ∷ cut n (drop 16 l)
 unfolding cut

@@ -1,15 +1,13 @@
 -- Blocks of sixteen bytes.
 -- Assumes nothing.
-use mathlib.Core.Path.{_≡_}
 use mathlib.Core.List.{List, [], _∷_, _++_}
 use Prim.Native.Nat.{ℕ, zero, suc, _/_}
 use lib.ListN.{length, take, drop}
-use Rattle.laws.specs.Bytes.{Bytes}
+use Rattle.laws.specs.Bytes.{Exactly}
 
 -- sixteen bytes: a key, a block, a chain value
-pub record Block (b : List ℕ) : Type 0 where
-  pub size : length b ≡ 16
-  pub bytes : Bytes b
+abbrev pub Block : List ℕ → Type 0
+Block b = Exactly 16 b
 
 -- each list is a block
 abbrev pub Blocks : List (List ℕ) → Type 0

@@ -2,14 +2,20 @@
 -- Assumes nothing.
 use mathlib.Core.Bool.{Bool, true, false, _&&_}
 use mathlib.Core.List.{List, [], _∷_}
+use mathlib.Core.Path.{_≡_}
 use Prim.Native.Nat.{ℕ, _-_, _<_}
 use lib.Bits.{bitXor}
 use lib.Dec.{eqb}
-use lib.ListN.{getD, replicate}
+use lib.ListN.{length, getD, replicate}
 
 -- each number of the list is a byte
 abbrev pub Bytes : List ℕ → Type 0
 Bytes s = (i : ℕ) → getD s i 0 < 256
+
+-- exactly n bytes
+pub record Exactly (n : ℕ) (s : List ℕ) : Type 0 where
+  pub size : length s ≡ n
+  pub bytes : Bytes s
 
 abbrev pub zeros : ℕ → List ℕ
 zeros n = replicate n 0

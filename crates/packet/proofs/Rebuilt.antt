@@ -19,6 +19,7 @@ use Rattle.packet_head.specs.Trailer.{Tail, Tail.checksum, Tail.crc, trailerLen
 use Rattle.laws.specs.Bytes.{Bytes}
 use Rattle.laws.proofs.ByteLists.{bytes-take}
 use Rattle.laws.proofs.Answers.{Holds, holds-refuse, holds-choose, holds-then, holds-mono, holds-given}
+use Rattle.laws.proofs.Lists.{part-length}
 use Rattle.packet_parse.specs.Trailer.{crcGot, sumGot, trailerOf}
 use Rattle.packet_parse.specs.Frame.{Head, Fields, BlockAt, BlockAt.noBlock, BlockAt.blockAt, MacAt, MacAt.noMac, MacAt.macFrom, macAt, lenOf, headOf, fieldsOf, partsOf, frameOf, parseOf}
 use Rattle.packet_build.specs.Build as made
@@ -159,7 +160,7 @@ mac-there f at false t h =
 
 mac-size : (f : List ℕ) (at : ℕ) (mac t : Bool) → at + 1 + macLen mac + trailerLen t ≤ length f
     → length (macBytesFrom (macAt mac (length f - (macLen mac + trailerLen t))) f) ≡ macLen mac
-mac-size f at true t h = length-take-le 4 (drop (length f - (4 + trailerLen t)) f) (simp length-drop (omega arith))
+mac-size f at true t h = part-length f (length f - (4 + trailerLen t)) 4 (omega arith)
 mac-size f at false t h = refl
 
 signed-there : (f : List ℕ) (a : ℕ) (c : Control) (k : BlockAt) (at : ℕ) (mac : Bool) (x : Tail) → Placed f a c k at mac → at + 1 + macLen mac + trailerLen (c .1) ≤ length f
@@ -184,7 +185,7 @@ again f a c k at mac x h p l t have room =
     let b = blockFrom k f in
     let n = dataN f at mac (c .1) in
     let m = macBytesFrom (macAt mac (length f - (macLen mac + trailerLen (c .1)))) f in
-    let ld : length (take n (drop (at + 1) f)) ≡ n = length-take-le n (drop (at + 1) f) (simp length-drop (omega arith)) in
+    let ld : length (take n (drop (at + 1) f)) ≡ n = part-length f (at + 1) n (omega arith) in
     let lm : length m ≡ macLen mac = mac-size f at mac (c .1) l in
     let most : length f ≤ 65535 = omega (arith, h .len, h .bytes 2, h .bytes 3) in
     let total : length f ≡ totalN (c .1) (made.present b) (length m) (made.blockN b) (length (take n (drop (at + 1) f))) = omega (arith, bytesN-is b, p .size) in
@@ -232,7 +233,7 @@ placed-none f a c h e = record { front = append-nil _ ∙ head-there f a c h; si
 placed-block : (f : List ℕ) (a : ℕ) (c : Control) (b : ℕ × ℕ) → Headed f a c → c .2 ≡ true → Blocked (drop 5 f) b → Placed f a c (blockAt (b .0) 7 (b .1)) (7 + b .1) (hasMac (b .0))
 placed-block f a c b h e k =
     let l = length-drop 5 f in
-    let n : length (take (b .1) (drop 7 f)) ≡ b .1 = length-take-le (b .1) (drop 7 f) (simp length-drop (omega (arith, k .size, k .inside))) in
+    let n : length (take (b .1) (drop 7 f)) ≡ b .1 = part-length f 7 (b .1) (omega (arith, k .size, k .inside)) in
     let byte : getD (drop 5 f) 0 0 < 256 = rw getD-drop (h .bytes (5 + 0)) in
     let z : length (take (b .1) (drop 7 f)) + 2 ≡ getD (drop 5 f) 0 0 = omega (arith, k .size) in
     record {

@@ -7,8 +7,8 @@ use native.Mathlib.Nat.{add-zero, add-suc, suc-add, mul-assoc, add-mul}
 use native.Mathlib.Omega.{arith}
 use lib.Bits.{bitOr, bitXor, xor-shr, xor-mod, or-shifted}
 use lib.Pow.{pow-add, shl-lt, shl-exact}
-use lib.ListN.{length, take, drop, getD, length-drop}
-use lib.Seq.{length-take-le, drop-cons}
+use lib.ListN.{length, take, drop, getD}
+use lib.Seq.{drop-cons}
 use Rattle.laws.specs.Bytes.{Bytes}
 use Rattle.laws.specs.Table.{from}
 use Rattle.laws.proofs.Lists.{drop-next}
@@ -28,9 +28,6 @@ unfolding wordFrom
 word-cons a b s = refl
 
 -- ---- parts of a list of bytes
-
-pub part-length : (s : List ℕ) (i n : ℕ) → i + n ≤ length s → length (take n (drop i s)) ≡ n
-part-length s i n h = length-take-le n (drop i s) (omega (arith, length-drop i s))
 
 rest-read : (s : List ℕ) (i j n : ℕ) → i + j + n ≤ length s → take n (drop (i + j) s) ≡ from (λ k. getD s (i + k) 0) j n
 rest-read s i j zero h = refl

@@ -5,10 +5,11 @@ use mathlib.Core.Path.{_≡_, refl, ap, _∙_}
 use mathlib.Core.List.{List, []}
 use Prim.Native.Nat.{ℕ, _+_, _≤_}
 use native.Mathlib.Omega.{arith}
-use lib.ListN.{length, take, drop, length-take, length-drop}
+use lib.ListN.{length, take, drop}
 use denote.Ref.{RefT, now}
 use Rattle.laws.specs.Answer.{Answer, Answer.given, Answer.refused}
 use Rattle.laws.proofs.Answers.{Holds}
+use Rattle.laws.proofs.Lists.{part-length}
 use Rattle.packet_parse.specs.Frame.{Fields, BlockAt, BlockAt.noBlock, BlockAt.blockAt, MacAt, MacAt.noMac, MacAt.macFrom, parseOf}
 use Rattle.packet_parse.proofs.Within.{Inside, BlockInside, MacInside, parse-inside, accepted-inside}
 use Rattle.packet_view.specs.View.{Part, Shown, placesOf, viewed, partOf, bytesAt, blockIn, dataIn, macIn, blockDataOf, payloadOf, macOf}
@@ -97,9 +98,6 @@ refused-empty s n vs e = (ap (bytesAt s blockOf) e, ap (bytesAt s dataIn) e, ap 
 
 -- ---- of an accepted frame: the bytes there, and all of them
 
-part-whole : (s : List ℕ) (at len : ℕ) → at + len ≤ length s → length (take len (drop at s)) ≡ len
-part-whole s at len h = simp (length-take, length-drop) (omega arith)
-
 module _ (s : List ℕ) (F : Fields) (e : parseOf s ≡ given F) where
   pub accepted-block-data : blockDataOf s ≡ take (blockIn (F .block) .1) (drop (blockIn (F .block) .0) s)
   unfolding blockDataOf
@@ -114,10 +112,10 @@ module _ (s : List ℕ) (F : Fields) (e : parseOf s ≡ given F) where
   accepted-mac = ap (bytesAt s macPartOf) e
 
   pub block-data-length : length (blockDataOf s) ≡ blockIn (F .block) .1
-  block-data-length = ap length accepted-block-data ∙ part-whole s _ _ (block-inside (length s) F (accepted-inside s F e))
+  block-data-length = ap length accepted-block-data ∙ part-length s _ _ (block-inside (length s) F (accepted-inside s F e))
 
   pub payload-length : length (payloadOf s) ≡ F .dataLen
-  payload-length = ap length accepted-payload ∙ part-whole s _ _ (payload-inside (length s) F (accepted-inside s F e))
+  payload-length = ap length accepted-payload ∙ part-length s _ _ (payload-inside (length s) F (accepted-inside s F e))
 
   pub mac-length : length (macOf s) ≡ macIn (F .mac) .1
-  mac-length = ap length accepted-mac ∙ part-whole s _ _ (mac-inside (length s) F (accepted-inside s F e))
+  mac-length = ap length accepted-mac ∙ part-length s _ _ (mac-inside (length s) F (accepted-inside s F e))

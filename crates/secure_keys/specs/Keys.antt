@@ -3,15 +3,14 @@
 use Prim.Native.Nat.{ℕ}
 use mathlib.Core.List.{List, _∷_, _++_}
 use mathlib.Core.Path.{_≡_}
-use lib.ListN.{length, take}
-use Rattle.laws.specs.Bytes.{Bytes, zeros, compl}
+use lib.ListN.{take}
+use Rattle.laws.specs.Bytes.{Exactly, zeros, compl}
 use Rattle.aes.specs.Cipher.{E}
 use Rattle.secure_keys.specs.declared.crypto.SessionKeys.{SessionKeys}
 
 -- a random number of the handshake, RND.A or RND.B: eight bytes
-pub record Random (a : List ℕ) : Type 0 where
-  pub size : length a ≡ 8
-  pub bytes : Bytes a
+abbrev pub Random : List ℕ → Type 0
+Random a = Exactly 8 a
 
 -- 01, a tag, the first six bytes of RND.A, eight zeros
 abbrev pub template : ℕ → List ℕ → List ℕ

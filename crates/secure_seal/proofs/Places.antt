@@ -2,10 +2,10 @@
 -- Assumes nothing.
 use mathlib.Core.Path.{_≡_, sym, ap, ap₂, _∙_}
 use mathlib.Core.List.{List, _++_, append-assoc, append-nil}
-use Prim.Native.Nat.{ℕ, _+_, _≤_}
+use Prim.Native.Nat.{ℕ, _+_}
 use native.Mathlib.Omega.{arith}
-use lib.ListN.{length, take, drop, length-drop, drop-of-length-le}
-use lib.Seq.{drop-drop, length-take-le}
+use lib.ListN.{length, take, drop, drop-of-length-le}
+use lib.Seq.{drop-drop}
 use Rattle.laws.specs.Over.{write}
 
 pub write-whole : (o s : List ℕ) → length o ≡ length s → write o 0 s ≡ s
@@ -25,7 +25,3 @@ unfolding write
 front-write o h y n e l =
     let m : n ≡ 0 + length h = omega arith in
     ap₂ (λ (x : List ℕ) (k : ℕ). x ++ drop k o) e m
-
--- how long a part is
-pub part-length : (o : List ℕ) (at n : ℕ) → at + n ≤ length o → length (take n (drop at o)) ≡ n
-part-length o at n h = length-take-le n (drop at o) (omega (arith, length-drop at o))

@@ -13,8 +13,9 @@ use Rattle.laws.specs.Answer.{Answer.given, refuseIf}
 use Rattle.laws.specs.Bytes.{Bytes, compl}
 use Rattle.laws.specs.Blocks.{Block}
 use Rattle.laws.specs.Over.{write}
-use Rattle.laws.proofs.ByteLists.{bytes-append, bytes-nil, bytes-compl, length-compl}
+use Rattle.laws.proofs.ByteLists.{bytes-append, bytes-nil}
 use Rattle.laws.proofs.Lists.{middle}
+use Rattle.laws.proofs.BlockLists.{block-compl}
 use Rattle.packet_head.specs.Block.{hasMac, isEncrypted, scsOf}
 use Rattle.packet_head.specs.Trailer.{Tail}
 use Rattle.packet_parse.specs.Frame.{Fields, BlockAt.blockAt, MacAt.macFrom, parseOf}
@@ -31,17 +32,9 @@ use Rattle.secure_cipher.proofs.CbcLaws.{length-hide, bytes-hide, steps-hide}
 use Rattle.secure_cipher.proofs.MacLaws.{mac-block, mac-steps}
 use Rattle.secure_session.specs.Session.{isSecure}
 use Rattle.secure_session.specs.declared.session.State.{State}
-use Rattle.secure_seal.specs.Seal.{typeFor, dataLen, dataOf, Asked, totalOf, partsWith, bodyWith, sealedFrame, sealRun}
+use Rattle.secure_seal.specs.Seal.{typeFor, dataLen, dataOf, Asked, totalOf, Sealable, partsWith, bodyWith, sealedFrame, sealRun}
 use Rattle.secure_seal.specs.declared.frame.Direction.{Direction}
 use Rattle.secure_seal.specs.declared.frame.Direction.the-variants.{AcuToPd, PdToAcu}
-
--- what passes the tests, with bytes throughout
-pub record Sealable (q : Asked) : Type 0 where
-  pub addr : q .addr < 256
-  pub sqn : q .sqn ≤ 3
-  pub code : q .code < 256
-  pub payload : Bytes (q .payload)
-  pub total : totalOf q ≤ 65535
 
 -- the calls for n bytes: 2q + 1 with q = n / 16 + 1, or 8 + n over 16, rounded up
 abbrev pub stepsFor : Bool → ℕ → ℕ
@@ -85,19 +78,16 @@ unfolding dataLen
 length-dataLen false x = omega arith
 length-dataLen true x = omega (arith, length-padData x)
 
-compl-block : (v : List ℕ) → Block v → Block (compl v)
-compl-block v h = record { size = length-compl v ∙ h .size; bytes = bytes-compl v }
-
 module _ (k v x : List ℕ) (hk : Block k) (hv : Block v) (hx : Bytes x) where
   pub data-length : (e : Bool) → length (dataOf e k v x .bytes) ≡ dataLen e x
   unfolding dataOf dataLen
   data-length false = refl
-  data-length true = length-hide k (compl v) x hk (compl-block v hv) hx ∙ sym (length-padData x)
+  data-length true = length-hide k (compl v) x hk (block-compl v (hv .size)) hx ∙ sym (length-padData x)
 
   pub data-bytes : (e : Bool) → Bytes (dataOf e k v x .bytes)
   unfolding dataOf
   data-bytes false = hx
-  data-bytes true = bytes-hide k (compl v) x hk (compl-block v hv) hx
+  data-bytes true = bytes-hide k (compl v) x hk (block-compl v (hv .size)) hx
 
 pub plain-len : (x : List ℕ) → dataLen false x ≡ length x
 unfolding dataLen

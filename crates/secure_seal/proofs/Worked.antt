@@ -8,8 +8,8 @@ use lib.ListN.{length}
 use Rattle.laws.specs.Blocks.{Block}
 use Rattle.secure_keys.specs.declared.crypto.SessionKeys.{SessionKeys}
 use Rattle.secure_keys.proofs.KeysLaws.{GoodKeys}
-use Rattle.secure_seal.specs.Seal.{Asked, dataLen, sealedFrame}
-use Rattle.secure_seal.proofs.SealLaws.{Sealable, stepsFor, plain-len, hidden-len, frame-length, frame-steps}
+use Rattle.secure_seal.specs.Seal.{Asked, dataLen, Sealable, sealedFrame}
+use Rattle.secure_seal.proofs.SealLaws.{stepsFor, plain-len, hidden-len, frame-length, frame-steps}
 
 -- the length of the frame and the calls for n bytes, encrypted or plain
 abbrev pub sizeFor : Bool → ℕ → ℕ × ℕ

@@ -1,13 +1,13 @@
 -- Sealing (docs/RULES.md, 8.1, 8.2 and 9): a core that knows no session, and the call on a session.
 -- Assumes nothing.
-use Prim.Native.Nat.{ℕ, _+_}
+use Prim.Native.Nat.{ℕ, _+_, _≤_, _<_}
 use mathlib.Core.Bool.{Bool, true, false, cond}
 use mathlib.Core.List.{List, [], _∷_}
 use mathlib.Core.Option.{Option, none, some}
 use lib.Dec.{ltb}
 use lib.ListN.{length, take}
 use Rattle.laws.specs.Answer.{Answer, Answer.given, Answer.refused}
-use Rattle.laws.specs.Bytes.{compl}
+use Rattle.laws.specs.Bytes.{Bytes, compl}
 use Rattle.laws.specs.Over.{write}
 use Rattle.packet_head.specs.declared.header.Address.{Address}
 use Rattle.packet_head.specs.declared.header.Sqn.{Sqn}
@@ -57,6 +57,14 @@ askedOf a n d e c x = record { addr = a .0; sqn = n .0; direction = d; encrypt =
 -- 53, address, LEN, CTRL, block, code: eight bytes; MAC and CRC: six
 abbrev pub totalOf : Asked → ℕ
 totalOf q = 14 + dataLen (q .encrypt) (q .payload)
+
+-- bytes, a sequence number, and a total within LEN
+pub record Sealable (q : Asked) : Type 0 where
+  pub addr : q .addr < 256
+  pub sqn : q .sqn ≤ 3
+  pub code : q .code < 256
+  pub payload : Bytes (q .payload)
+  pub total : totalOf q ≤ 65535
 
 -- always a CRC and a block without data
 abbrev pub partsWith : Asked → List ℕ → List ℕ → Parts

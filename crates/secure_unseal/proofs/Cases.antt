@@ -6,12 +6,11 @@ use mathlib.Core.Option.{none, some}
 use mathlib.Core.Path.{_≡_, refl, sym, ap, ap₂, _∙_}
 use Prim.Native.Nat.{ℕ, _+_, _-_, _≤_}
 use native.Mathlib.Nat.{add-sub-cancel-left}
-use native.Mathlib.Omega.{arith}
 use lib.Dec.{ltb}
-use lib.ListN.{length, take, drop, length-drop}
-use lib.Seq.{length-take-le}
+use lib.ListN.{length, take, drop}
 use Rattle.laws.specs.Answer.{Answer, Answer.given, Answer.refused}
 use Rattle.laws.specs.Bytes.{compl, eql}
+use Rattle.laws.proofs.Lists.{part-length}
 use Rattle.packet_head.specs.Block.{hasMac, isEncrypted}
 use Rattle.packet_parse.specs.Frame.{Fields, typeIn, macStart, parseOf}
 use Rattle.refusal.specs.declared.Refusal.{Refusal}
@@ -94,7 +93,7 @@ unfolding finished decryptOf unsealHidden openData
 hidden-from k v f p c w h e =
     let n = p .dataLen in
     let o = openData k v f p in
-    let m : length (take n (drop (p .dataStart) f)) ≡ n = length-take-le n (drop (p .dataStart) f) (omega (arith, length-drop (p .dataStart) f)) in
+    let m : length (take n (drop (p .dataStart) f)) ≡ n = part-length f (p .dataStart) n h in
     ap (finished c n w) (e ∙ ap (λ (j : ℕ). deciphered c n w (ltb (length w) j) j o) m) ∙ hidden-finish c n w (ltb (length w) n) o
 
 -- from what was deciphered, and from what the MAC's check x came to

@@ -7,13 +7,14 @@ use Prim.Native.Nat.{ℕ, suc, _+_, _-_, _/_, _%_, _≤_}
 use native.Mathlib.Omega.{arith}
 use borrow.Author.Tests.{ltb-false}
 use lib.Dec.{ltb, eqb}
-use lib.ListN.{length, take, drop, length-drop, length-append, length-replicate}
+use lib.ListN.{length, take, drop, length-append, length-replicate}
 use lib.Seq.{length-take-le}
 use Rattle.laws.specs.Answer.{Answer, Answer.given, Answer.refused}
 use Rattle.laws.specs.Bytes.{Bytes, zeros, compl}
-use Rattle.laws.proofs.ByteLists.{bytes-take, bytes-drop, bytes-compl, length-compl}
+use Rattle.laws.proofs.ByteLists.{bytes-take, bytes-drop}
 use Rattle.laws.specs.Blocks.{Block, Blocks, blocks, flat}
-use Rattle.laws.proofs.BlockLists.{block-xorl, length-blocks, length-flat, blocks-blocks}
+use Rattle.laws.proofs.BlockLists.{block-xorl, length-blocks, length-flat, blocks-blocks, block-compl}
+use Rattle.laws.proofs.Lists.{part-length}
 use Rattle.aes.proofs.Laws.{D-block}
 use Rattle.aes.specs.Cipher.{D}
 use Rattle.secure_cipher.specs.Cbc.{Done, Opening, decRun, reveal, decryptOf, openedInto, wiped, laid}
@@ -117,7 +118,7 @@ decrypt-room k v c o l e = room-or (ltb (length o) (length c)) o c _ _ l 18 _ re
 module _ (k v f : List ℕ) (at n : ℕ) (w : List ℕ) (fit : at + n ≤ length f) {a : Answer ℕ} {out : List ℕ} {s : ℕ}
     (e : record { answer = a; out = out; steps = s } ≡ decryptOf k (compl v) (take n (drop at f)) w) where
   size : length (take n (drop at f)) ≡ n
-  size = length-take-le n (drop at f) (omega (arith, length-drop at f))
+  size = part-length f at n fit
 
   pub found-steps : s ≤ n / 16
   found-steps =
@@ -136,7 +137,7 @@ module _ (k v f : List ℕ) (at n : ℕ) (w : List ℕ) (fit : at + n ≤ length
     found-wiped hk hv hf =
         let c = take n (drop at f) in
         ap (λ (j : ℕ). wiped j out) (sym size) ∙ ap (λ (d : Done). wiped (length c) (d .out)) e
-        ∙ wiped-again k (compl v) c hk (record { size = length-compl v ∙ hv; bytes = bytes-compl v }) (bytes-take n (drop at f) (bytes-drop at f hf)) w l found
+        ∙ wiped-again k (compl v) c hk (block-compl v hv) (bytes-take n (drop at f) (bytes-drop at f hf)) w l found
         ∙ ap (λ (j : ℕ). wiped j w) size
 
 -- a check takes a step for every sixteen bytes before the MAC

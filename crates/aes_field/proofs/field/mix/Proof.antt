@@ -9,7 +9,7 @@ use Rattle.aes_field.proofs.field.mix.Tie as tie
 returns : tie.Need-returns
 returns c =
     let start = c .before .before .before in
-    mix-two (start .args .x) (start .fits .x .fits) _ _ _ _ (c .before .before .turn-one .ensures) refl (c .before .twice-each .ensures) (c .turn-two .ensures)
+    mix-two (start .args .x) _ _ _ _ (c .before .before .turn-one .ensures) refl (c .before .twice-each .ensures) (c .turn-two .ensures)
 
 pub mix-spec : {M : Type 1} → statement M
 mix-spec = tie.close (tie.spec (λ c κs. search needs) (λ c κs. search needs) (λ c κs. search needs) returns)

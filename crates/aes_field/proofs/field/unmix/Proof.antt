@@ -9,7 +9,7 @@ use Rattle.aes_field.proofs.field.unmix.Tie as tie
 returns : tie.Need-returns
 returns c =
     let start = c .before .before .before .before in
-    unmix-two (start .args .x) (start .fits .x .fits) _ _ _ _ _
+    unmix-two (start .args .x) _ _ _ _ _
     (c .before .before .before .turn-two .ensures) (c .before .before .twice-each .ensures) (c .before .twice-each2 .ensures) refl (c .mix .ensures)
 
 pub unmix-spec : {M : Type 1} → statement M

@@ -9,10 +9,10 @@ use lib.Bits.{bitXor}
 use lib.ListN.{length, take, drop, drop-of-length-le}
 use lib.Seq.{drop-drop}
 use Rattle.laws.proofs.ByteLists.{bytes-take, bytes-drop}
+use Rattle.laws.proofs.Lists.{part-length}
 use Rattle.packet_sums.specs.Crc.{start, crcFrom, crcOf}
 use Rattle.packet_sums.specs.Word.{crcWord}
 use Rattle.packet_sums.proofs.CrcLaws.{crc-nil, crc-cut}
-use Rattle.packet_sums.proofs.WordLaws.{part-length}
 use Rattle.packet_sums.proofs.Step.{word-step}
 use Rattle.packet_sums.proofs.crc.crc16.Statement.{statement}
 use Rattle.packet_sums.proofs.crc.crc16.Tie as tie

@@ -3,9 +3,10 @@
 use Prim.Native.Nat.{_≤_, _-_}
 use mathlib.Core.Path.{sym, _∙_}
 use native.Mathlib.Omega.{arith}
-use lib.ListN.{getD, take, drop, length-drop}
-use lib.Seq.{getD-take, getD-drop, length-take-le}
+use lib.ListN.{getD, take, drop}
+use lib.Seq.{getD-take, getD-drop}
 use Rattle.laws.proofs.Fill.{Filled, fill-none, fill-more, fill-all, whole}
+use Rattle.laws.proofs.Lists.{part-length}
 use Rattle.secure_cipher.proofs.block.block_at.Statement.{statement}
 use Rattle.secure_cipher.proofs.block.block_at.Tie as tie
 
@@ -26,7 +27,7 @@ returns : tie.Need-returns Inv-loop μ-loop
 returns c =
     let a = c .before .before .args in
     let s = a .s .now in
-    fill-all (c .loop-test .left) (c .before .loop .inv .1) ∙ whole (take 16 (drop (a .at) s)) (length-take-le 16 (drop (a .at) s) (omega (arith, length-drop (a .at) s)))
+    fill-all (c .loop-test .left) (c .before .loop .inv .1) ∙ whole (take 16 (drop (a .at) s)) (part-length s (a .at) 16 (omega arith))
 
 pub block-at-spec : {M : Type 1} → statement M
 block-at-spec =

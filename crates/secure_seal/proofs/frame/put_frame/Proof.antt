@@ -5,10 +5,10 @@ use Prim.Native.Nat.{_+_, _-_, _≤_}
 use native.Mathlib.Omega.{arith}
 use lib.ListN.{length, take, drop}
 use lib.Seq.{length-take-le}
+use Rattle.laws.proofs.Lists.{part-length}
 use borrow.Rule.Slice.PartMut.{putMid}
 use Rattle.secure_seal.specs.Seal.{dataLen, askedOf}
 use Rattle.secure_seal.proofs.FrameWritten.{frame-put, data-steps, mac-few}
-use Rattle.secure_seal.proofs.Places.{part-length}
 use Rattle.secure_seal.proofs.SealLaws.{length-dataLen}
 use Rattle.secure_cipher.specs.Mac.{Mac}
 use borrow.Author.Needs.{needs}

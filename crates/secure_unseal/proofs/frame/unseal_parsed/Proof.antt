@@ -1,7 +1,7 @@
 -- `unseal_parsed` meets its contract: the block's type decides, and where it has a MAC the frame has room for it.
 -- Assumes nothing.
 use native.Mathlib.Omega.{arith}
-use mathlib.Core.Bool.{true, false}
+use mathlib.Core.Bool.{Bool, true, false}
 use mathlib.Core.Path.{_≡_, sym, ap, _∙_}
 use Prim.Native.Nat.{ℕ}
 use Rattle.packet_head.specs.Block.{hasMac, isEncrypted}
@@ -14,6 +14,10 @@ use borrow.Author.Needs.{needs}
 use Rattle.secure_unseal.proofs.frame.unseal_parsed.Statement.{statement}
 use Rattle.secure_unseal.proofs.frame.unseal_parsed.Tie as tie
 
+-- what the code's test said of the type it took out of the block
+told : (test : ℕ → Bool) {b q : BlockPart} {x y : Bool} → b ≡ q → x ≡ test (typeIn (blockPlace q)) → x ≡ y → test (typeIn (blockPlace b)) ≡ y
+told test e r t = ap (λ (p : BlockPart). test (typeIn (blockPlace p))) e ∙ sym r ∙ t
+
 unseal-hidden-requires : tie.Need-unseal-hidden-requires
 unseal-hidden-requires c κs =
     let m = c .before .before .before in
@@ -22,7 +26,7 @@ unseal-hidden-requires c κs =
     let s = g .before .before .before .before in
     let a = s .args in
     let f = fields (a .p) in
-    let t : hasMac (typeIn (f .block)) ≡ true = ap (λ (b : BlockPart). hasMac (typeIn (blockPlace b))) (g .block .given .1) ∙ sym (h .has-mac .ensures) ∙ m .before .if1 .taken in
+    let t : hasMac (typeIn (f .block)) ≡ true = told hasMac (g .block .given .1) (h .has-mac .ensures) (m .before .if1 .taken) in
     (omega (arith, m .mac-start .ensures, mac-inside (a .frame .now) f (s .pre) t), data-inside (a .frame .now) f (s .pre))
 
 check-requires : tie.Need-check-requires
@@ -33,7 +37,7 @@ check-requires c κs =
     let s = g .before .before .before .before in
     let a = s .args in
     let f = fields (a .p) in
-    let t : hasMac (typeIn (f .block)) ≡ true = ap (λ (b : BlockPart). hasMac (typeIn (blockPlace b))) (g .block .given .1) ∙ sym (h .has-mac .ensures) ∙ m .before .if1 .taken in
+    let t : hasMac (typeIn (f .block)) ≡ true = told hasMac (g .block .given .1) (h .has-mac .ensures) (m .before .if1 .taken) in
     omega (arith, m .mac-start .ensures, mac-inside (a .frame .now) f (s .pre) t)
 
 returns : tie.Need-returns
@@ -52,8 +56,8 @@ returns-2 c =
     let s = g .before .before .before .before in
     let a = s .args in
     let f = fields (a .p) in
-    let t : hasMac (typeIn (f .block)) ≡ true = ap (λ (b : BlockPart). hasMac (typeIn (blockPlace b))) (g .block .given .1) ∙ sym (h .has-mac .ensures) ∙ m .before .if1 .taken in
-    let y : isEncrypted (typeIn (f .block)) ≡ true = ap (λ (b : BlockPart). isEncrypted (typeIn (blockPlace b))) (g .block .given .1) ∙ sym (e .is-encrypted .ensures) ∙ u .before .before .if2 .taken in
+    let t : hasMac (typeIn (f .block)) ≡ true = told hasMac (g .block .given .1) (h .has-mac .ensures) (m .before .if1 .taken) in
+    let y : isEncrypted (typeIn (f .block)) ≡ true = told isEncrypted (g .block .given .1) (e .is-encrypted .ensures) (u .before .before .if2 .taken) in
     u .unseal-hidden .ensures
     ∙ ap (λ (n : ℕ). unsealHidden (check (a .keys) (a .start) (a .frame .now) n) (openData (a .keys) (a .start) (a .frame .now) f) f (a .work .now)) (m .mac-start .ensures)
     ∙ parsed-hidden (a .keys) (a .start) (a .frame .now) f (a .work .now) t y
@@ -67,8 +71,8 @@ returns-3 c =
     let s = g .before .before .before .before in
     let a = s .args in
     let f = fields (a .p) in
-    let t : hasMac (typeIn (f .block)) ≡ true = ap (λ (b : BlockPart). hasMac (typeIn (blockPlace b))) (g .block .given .1) ∙ sym (h .has-mac .ensures) ∙ m .before .if1 .taken in
-    let y : isEncrypted (typeIn (f .block)) ≡ false = ap (λ (b : BlockPart). isEncrypted (typeIn (blockPlace b))) (g .block .given .1) ∙ sym (e .is-encrypted .ensures) ∙ c .before .before .if2 .left in
+    let t : hasMac (typeIn (f .block)) ≡ true = told hasMac (g .block .given .1) (h .has-mac .ensures) (m .before .if1 .taken) in
+    let y : isEncrypted (typeIn (f .block)) ≡ false = told isEncrypted (g .block .given .1) (e .is-encrypted .ensures) (c .before .before .if2 .left) in
     c .unseal-plain .ensures (a .work .now)
     ∙ ap (λ (x : Checked). unsealPlain x f (a .work .now)) (c .before .check .ensures ∙ ap (check (a .keys) (a .start) (a .frame .now)) (m .mac-start .ensures))
     ∙ parsed-plain (a .keys) (a .start) (a .frame .now) f (a .work .now) t y
@@ -79,7 +83,7 @@ returns-4 c =
     let g = h .before .before in
     let a = g .before .before .before .before .args in
     stops (c .stopped2 .ensures)
-    (parsed-no (a .keys) (a .start) (a .frame .now) (fields (a .p)) (a .work .now) (ap (λ (b : BlockPart). hasMac (typeIn (blockPlace b))) (g .block .given .1) ∙ sym (h .has-mac .ensures) ∙ c .before .if1 .left))
+    (parsed-no (a .keys) (a .start) (a .frame .now) (fields (a .p)) (a .work .now) (told hasMac (g .block .given .1) (h .has-mac .ensures) (c .before .if1 .left)))
 
 pub unseal-parsed-spec : {M : Type 1} → statement M
 unseal-parsed-spec =
