@@ -3,19 +3,33 @@ use libc::STDOUT_FILENO;
 use packet::Address;
 use packet::Parsed;
 use packet::Sqn;
+use refusal::Refusal;
 use secure::Direction;
+use secure::LengthAnswer;
+use secure::Outcome;
 use secure::PlaceAnswer;
 use secure::Session;
 
 struct Ends {
+    outcome: Outcome,
     controller: Session,
     reader: Session,
 }
 
-fn code_of(bytes: &[u8]) -> u8 {
+fn put_refused(e: Refusal) {
+    io::write_all(STDOUT_FILENO, b"refused ");
+    io::print_decimal(STDOUT_FILENO, e.number() as u64);
+    io::write_all(STDOUT_FILENO, b"\n");
+}
+
+fn put_code(bytes: &[u8]) {
     match packet::parse(bytes) {
-        Parsed::Good(p) => p.code,
-        Parsed::Refused(_) => 0,
+        Parsed::Good(p) => {
+            io::write_all(STDOUT_FILENO, b"code ");
+            io::print_decimal(STDOUT_FILENO, p.code as u64);
+            io::write_all(STDOUT_FILENO, b"\n");
+        }
+        Parsed::Refused(e) => put_refused(e),
     }
 }
 
@@ -28,18 +42,38 @@ fn handshake(scbk: [u8; 16], cuid: [u8; 8], rnd_a: [u8; 8], rnd_b: [u8; 8]) -> E
     let server = known.server_cryptogram().block;
     let last = met.session.receive_scrypt(server);
     let first = last.block;
-    let controller = known.confirm_rmac_i(first).session;
+    let confirmed = known.confirm_rmac_i(first);
+    let outcome = confirmed.outcome;
+    let controller = confirmed.session;
     let reader = last.session;
-    Ends { controller, reader }
+    Ends {
+        outcome,
+        controller,
+        reader,
+    }
 }
 
-// Whether the badge number that the reader sealed is what the controller opens.
-fn badge_arrives(ends: Ends, badge: &[u8]) -> bool {
-    let mut frame = [0u8; 64];
+fn put_opened(controller: Session, frame: &[u8]) {
     let mut work = [0u8; 64];
-    let reader = ends.reader;
-    let controller = ends.controller;
-    secure::seal(
+    let opened = secure::unseal(controller, frame, &mut work);
+    let place = opened.answer;
+    match place {
+        PlaceAnswer::Payload {
+            in_work,
+            start,
+            len,
+        } => {
+            let payload = secure::payload(frame, &work, in_work, start, len);
+            io::write_all(STDOUT_FILENO, payload);
+            io::write_all(STDOUT_FILENO, b"\n");
+        }
+        PlaceAnswer::Refused(e) => put_refused(e),
+    }
+}
+
+fn put_badge(reader: Session, controller: Session, badge: &[u8]) {
+    let mut frame = [0u8; 64];
+    let sealed = secure::seal(
         reader,
         Address::from_raw(0x85),
         Sqn::ZERO,
@@ -49,29 +83,22 @@ fn badge_arrives(ends: Ends, badge: &[u8]) -> bool {
         badge,
         &mut frame,
     );
-    let opened = secure::unseal(controller, &frame, &mut work);
-    let place = opened.answer;
-    match place {
-        PlaceAnswer::Payload {
-            in_work,
-            start,
-            len,
-        } => {
-            let payload = secure::payload(&frame, &work, in_work, start, len);
-            check::same(payload, badge)
-        }
-        PlaceAnswer::Refused(_) => false,
+    let length = sealed.answer;
+    match length {
+        LengthAnswer::Of(_) => put_opened(controller, &frame),
+        LengthAnswer::Refused(e) => put_refused(e),
     }
 }
 
 fn main() {
-    let poll = [0x53, 0x05, 0x08, 0x00, 0x04, 0x60, 0xBC, 0x89];
-    io::write_all(STDOUT_FILENO, b"code ");
-    io::print_decimal(STDOUT_FILENO, code_of(&poll) as u64);
+    put_code(&[0x53, 0x05, 0x08, 0x00, 0x04, 0x60, 0xBC, 0x89]);
+    put_code(&[0x53, 0x05, 0x08, 0x00, 0x04, 0x60, 0xBC, 0x88]);
     let ends = handshake([7; 16], [1; 8], [2; 8], [3; 8]);
-    if badge_arrives(ends, b"conservator 31415") {
-        io::write_all(STDOUT_FILENO, b"\nbadge opened as sealed\n");
-    } else {
-        io::write_all(STDOUT_FILENO, b"\nbadge not opened\n");
+    let outcome = ends.outcome;
+    let controller = ends.controller;
+    let reader = ends.reader;
+    match outcome {
+        Outcome::Done => put_badge(reader, controller, b"conservator 31415"),
+        Outcome::Refused(e) => put_refused(e),
     }
 }
