@@ -9,7 +9,7 @@ use lib.ListN.{length, take, drop, getD}
 use lib.Seq.{drop-append-add, take-all, take-at, length-take-le, paste, length-paste, take-paste}
 use Rattle.laws.specs.Table.{blockOf}
 use Rattle.laws.specs.Bytes.{xorl}
-use Rattle.laws.proofs.Fill.{length-blockOf, whole}
+use Rattle.laws.proofs.Listed.{length-blockOf, whole}
 use Rattle.aes_field.specs.Field.{_⊕_, xtime}
 use Rattle.aes.specs.KeyExpansion.{word, temp, power, words, keyExpansion}
 use Rattle.aes.specs.RoundKey.{keyByte, nextKey}

@@ -4,20 +4,16 @@ use mathlib.Core.Path.{_≡_, ap, _∙_}
 use mathlib.Core.List.{List, [], _∷_, _++_}
 use Prim.Native.Nat.{ℕ, _*_, _/_, _%_, _^_, _<_}
 use native.Mathlib.Omega.{arith}
-use lib.Dec.{lit<}
 use lib.Bits.{bitXor, xor-zero-r}
 use lib.ListN.{length, getD}
 use Rattle.laws.specs.Bytes.{xorl}
 use Rattle.laws.specs.Table.{blockOf}
-use Rattle.laws.proofs.Fill.{whole}
+use Rattle.laws.proofs.Listed.{whole}
 use Rattle.aes_field.specs.Field.{_⊕_}
 use Rattle.aes_field.specs.Packed.{packed, unpacked}
-use Rattle.aes_field.proofs.Packing.{unpacked-xor, placed, after, after-is, byte}
+use Rattle.aes_field.proofs.Packing.{unpacked-xor, placed, empty, after, after-is, byte}
 use Rattle.aes.specs.RoundKey.{keyByte, nextKey}
 use Rattle.aes.specs.Halves.{turn, carry, part}
-
-oo : 0 < 256
-oo = lit< tt
 
 -- the first column of l in the second's place
 abbrev up : List ℕ → List ℕ
@@ -31,7 +27,7 @@ shifted-up : (z : ℕ) → unpacked 8 (z * 2 ^ 32 % 2 ^ 64) ≡ up (unpacked 8 z
 unfolding packed unpacked
 shifted-up z =
     placed 0 0 0 0 (z % 256) (z / 256 % 256) (z / 256 / 256 % 256) (z / 256 / 256 / 256 % 256)
-    oo oo oo oo (byte z) (byte (z / 256)) (byte (z / 256 / 256)) (byte (z / 256 / 256 / 256)) (z * 2 ^ 32 % 2 ^ 64) (omega arith)
+    empty empty empty empty (byte z) (byte (z / 256)) (byte (z / 256 / 256)) (byte (z / 256 / 256 / 256)) (z * 2 ^ 32 % 2 ^ 64) (omega arith)
 
 shifted-down : (z : ℕ) → z < 2 ^ 64 → unpacked 8 (z / 2 ^ 32) ≡ down (unpacked 8 z)
 unfolding unpacked

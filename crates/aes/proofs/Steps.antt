@@ -11,7 +11,7 @@ use lib.Seq.{ext-getD}
 use Rattle.laws.specs.Table.{blockOf}
 use Rattle.laws.specs.Bytes.{Bytes}
 use Rattle.laws.specs.Blocks.{Block}
-use Rattle.laws.proofs.Fill.{length-blockOf, getD-blockOf, whole}
+use Rattle.laws.proofs.Listed.{length-blockOf, getD-blockOf, whole}
 use Rattle.aes_field.specs.Field.{_⊕_}
 use Rattle.aes_field.specs.Sbox.{SBOX, INVSBOX}
 use Rattle.aes_field.proofs.Sums.{⊕-cancel, ⊕-lt}

@@ -1,6 +1,6 @@
 -- MIXCOLUMNS and INVMIXCOLUMNS of two packed columns, from the columns turned by one byte and by two.
 -- Assumes nothing.
-use mathlib.Core.Path.{_≡_, refl, sym, ap, ap₂, _∙_}
+use mathlib.Core.Path.{_≡_, sym, ap, ap₂, _∙_}
 use mathlib.Core.List.{List, map}
 use Prim.Native.Nat.{ℕ, _<_}
 use lib.Bits.{bitXor}

@@ -114,12 +114,9 @@ xtime-halves a l =
     let q : top a * 27 ≡ a / 128 * 27 = omega arith in
     ap₂ bitXor p q
 
--- a byte under the mask ff
+-- a byte under the mask full
 keep : (y : ℕ) → bitAnd (y % 256) 255 ≡ y % 256
 keep y = let e : y % 256 % 256 ≡ y % 256 = omega arith in and-mask (y % 256) 8 ∙ e
-
-none : (y : ℕ) → bitAnd y 0 ≡ 0
-none y = and-zero-r y
 
 -- eight bytes, moved up by three places and by two
 up3 : (a e : ℕ) → a < 256 → e < 256
@@ -132,11 +129,11 @@ up2 : (a b e f : ℕ) → a < 256 → b < 256 → e < 256 → f < 256
 unfolding packed
 up2 a b e f p q r s = omega arith
 
-ff : 255 < 256
-ff = lit< tt
+full : 255 < 256
+full = lit< tt
 
-oo : 0 < 256
-oo = lit< tt
+pub empty : 0 < 256
+empty = lit< tt
 
 pub byte : (y : ℕ) → y % 256 < 256
 byte y = mod-lt y (lit< tt)
@@ -213,18 +210,18 @@ module _ (x : ℕ) (h : x < 2 ^ 64) where
   turn-one =
       let lower : bitAnd (x / 256) 0x00ffffff00ffffff ≡ packed (eight (g 1 % 256) (g 2 % 256) (g 3 % 256) 0 (g 5 % 256) (g 6 % 256) (g 7 % 256) 0) =
       ap (λ (y : ℕ). bitAnd y 0x00ffffff00ffffff) (sym (packed-unpacked 8 (x / 256) (omega arith)))
-      ∙ packed-and (unpacked 8 (x / 256)) (eight 255 255 255 0 255 255 255 0) refl (unpacked-bytes 8 (x / 256)) (eight-bytes ff ff ff oo ff ff ff oo)
-      ∙ (λ i. packed (eight (keep (g 1) i) (keep (g 2) i) (keep (g 3) i) (none (g 4 % 256) i) (keep (g 5) i) (keep (g 6) i) (keep (g 7) i) (none (g 8 % 256) i))) in
+      ∙ packed-and (unpacked 8 (x / 256)) (eight 255 255 255 0 255 255 255 0) refl (unpacked-bytes 8 (x / 256)) (eight-bytes full full full empty full full full empty)
+      ∙ (λ i. packed (eight (keep (g 1) i) (keep (g 2) i) (keep (g 3) i) (and-zero-r (g 4 % 256) i) (keep (g 5) i) (keep (g 6) i) (keep (g 7) i) (and-zero-r (g 8 % 256) i))) in
       let upper : bitAnd x 0x000000ff000000ff * 2 ^ 24 % 2 ^ 64 ≡ packed (eight 0 0 0 (g 0 % 256) 0 0 0 (g 4 % 256)) =
       ap (λ (y : ℕ). y * 2 ^ 24 % 2 ^ 64)
       (ap (λ (y : ℕ). bitAnd y 0x000000ff000000ff) (sym is-packed)
-      ∙ packed-and (unpacked 8 x) (eight 255 0 0 0 255 0 0 0) refl (unpacked-bytes 8 x) (eight-bytes ff oo oo oo ff oo oo oo)
-      ∙ (λ i. packed (eight (keep (g 0) i) (none (g 1 % 256) i) (none (g 2 % 256) i) (none (g 3 % 256) i) (keep (g 4) i) (none (g 5 % 256) i) (none (g 6 % 256) i) (none (g 7 % 256) i))))
+      ∙ packed-and (unpacked 8 x) (eight 255 0 0 0 255 0 0 0) refl (unpacked-bytes 8 x) (eight-bytes full empty empty empty full empty empty empty)
+      ∙ (λ i. packed (eight (keep (g 0) i) (and-zero-r (g 1 % 256) i) (and-zero-r (g 2 % 256) i) (and-zero-r (g 3 % 256) i) (keep (g 4) i) (and-zero-r (g 5 % 256) i) (and-zero-r (g 6 % 256) i) (and-zero-r (g 7 % 256) i))))
       ∙ up3 (g 0 % 256) (g 4 % 256) (byte (g 0)) (byte (g 4)) in
       ap₂ bitXor lower upper
       ∙ packed-xor (eight (g 1 % 256) (g 2 % 256) (g 3 % 256) 0 (g 5 % 256) (g 6 % 256) (g 7 % 256) 0) (eight 0 0 0 (g 0 % 256) 0 0 0 (g 4 % 256)) refl
-      (eight-bytes (byte (g 1)) (byte (g 2)) (byte (g 3)) oo (byte (g 5)) (byte (g 6)) (byte (g 7)) oo)
-      (eight-bytes oo oo oo (byte (g 0)) oo oo oo (byte (g 4)))
+      (eight-bytes (byte (g 1)) (byte (g 2)) (byte (g 3)) empty (byte (g 5)) (byte (g 6)) (byte (g 7)) empty)
+      (eight-bytes empty empty empty (byte (g 0)) empty empty empty (byte (g 4)))
       ∙ (λ i. packed (eight (xor-zero-r (g 1 % 256) i) (xor-zero-r (g 2 % 256) i) (xor-zero-r (g 3 % 256) i) (g 0 % 256) (xor-zero-r (g 5 % 256) i) (xor-zero-r (g 6 % 256) i) (xor-zero-r (g 7 % 256) i) (g 4 % 256)))
 
   -- each byte replaced by the one two below it
@@ -235,16 +232,16 @@ module _ (x : ℕ) (h : x < 2 ^ 64) where
       let two : x / 65536 ≡ x / 256 / 256 = omega arith in
       let lower : bitAnd (x / 65536) 0x0000ffff0000ffff ≡ packed (eight (g 2 % 256) (g 3 % 256) 0 0 (g 6 % 256) (g 7 % 256) 0 0) =
       ap (λ (y : ℕ). bitAnd y 0x0000ffff0000ffff) (two ∙ sym (packed-unpacked 8 (x / 256 / 256) (omega arith)))
-      ∙ packed-and (unpacked 8 (x / 256 / 256)) (eight 255 255 0 0 255 255 0 0) refl (unpacked-bytes 8 (x / 256 / 256)) (eight-bytes ff ff oo oo ff ff oo oo)
-      ∙ (λ i. packed (eight (keep (g 2) i) (keep (g 3) i) (none (g 4 % 256) i) (none (g 5 % 256) i) (keep (g 6) i) (keep (g 7) i) (none (g 8 % 256) i) (none (g 9 % 256) i))) in
+      ∙ packed-and (unpacked 8 (x / 256 / 256)) (eight 255 255 0 0 255 255 0 0) refl (unpacked-bytes 8 (x / 256 / 256)) (eight-bytes full full empty empty full full empty empty)
+      ∙ (λ i. packed (eight (keep (g 2) i) (keep (g 3) i) (and-zero-r (g 4 % 256) i) (and-zero-r (g 5 % 256) i) (keep (g 6) i) (keep (g 7) i) (and-zero-r (g 8 % 256) i) (and-zero-r (g 9 % 256) i))) in
       let upper : bitAnd x 0x0000ffff0000ffff * 2 ^ 16 % 2 ^ 64 ≡ packed (eight 0 0 (g 0 % 256) (g 1 % 256) 0 0 (g 4 % 256) (g 5 % 256)) =
       ap (λ (y : ℕ). y * 2 ^ 16 % 2 ^ 64)
       (ap (λ (y : ℕ). bitAnd y 0x0000ffff0000ffff) (sym is-packed)
-      ∙ packed-and (unpacked 8 x) (eight 255 255 0 0 255 255 0 0) refl (unpacked-bytes 8 x) (eight-bytes ff ff oo oo ff ff oo oo)
-      ∙ (λ i. packed (eight (keep (g 0) i) (keep (g 1) i) (none (g 2 % 256) i) (none (g 3 % 256) i) (keep (g 4) i) (keep (g 5) i) (none (g 6 % 256) i) (none (g 7 % 256) i))))
+      ∙ packed-and (unpacked 8 x) (eight 255 255 0 0 255 255 0 0) refl (unpacked-bytes 8 x) (eight-bytes full full empty empty full full empty empty)
+      ∙ (λ i. packed (eight (keep (g 0) i) (keep (g 1) i) (and-zero-r (g 2 % 256) i) (and-zero-r (g 3 % 256) i) (keep (g 4) i) (keep (g 5) i) (and-zero-r (g 6 % 256) i) (and-zero-r (g 7 % 256) i))))
       ∙ up2 (g 0 % 256) (g 1 % 256) (g 4 % 256) (g 5 % 256) (byte (g 0)) (byte (g 1)) (byte (g 4)) (byte (g 5)) in
       ap₂ bitXor lower upper
       ∙ packed-xor (eight (g 2 % 256) (g 3 % 256) 0 0 (g 6 % 256) (g 7 % 256) 0 0) (eight 0 0 (g 0 % 256) (g 1 % 256) 0 0 (g 4 % 256) (g 5 % 256)) refl
-      (eight-bytes (byte (g 2)) (byte (g 3)) oo oo (byte (g 6)) (byte (g 7)) oo oo)
-      (eight-bytes oo oo (byte (g 0)) (byte (g 1)) oo oo (byte (g 4)) (byte (g 5)))
+      (eight-bytes (byte (g 2)) (byte (g 3)) empty empty (byte (g 6)) (byte (g 7)) empty empty)
+      (eight-bytes empty empty (byte (g 0)) (byte (g 1)) empty empty (byte (g 4)) (byte (g 5)))
       ∙ (λ i. packed (eight (xor-zero-r (g 2 % 256) i) (xor-zero-r (g 3 % 256) i) (g 0 % 256) (g 1 % 256) (xor-zero-r (g 6 % 256) i) (xor-zero-r (g 7 % 256) i) (g 4 % 256) (g 5 % 256)))

@@ -5,13 +5,14 @@ use Prim.Native.Nat.{ℕ, _<_}
 use mathlib.Core.Path.{_≡_, refl, sym, ap, _∙_}
 use native.Mathlib.Nat.{zero-add}
 use mathlib.Core.List.{List, [], _∷_}
-use mathlib.Core.Bool.{Bool}
+use mathlib.Core.Bool.{Bool, _&&_}
 use lib.Dec.{eqb, eqb→eq, ltb, ltb→lt, T}
 use lib.ListN.{length, getD}
 use lib.Seq.{ext-getD}
+use mir.Facts.{and-yes}
 use Rattle.laws.specs.Table.{table}
-use Rattle.laws.proofs.Fill.{length-from, getD-from}
-use Rattle.laws.proofs.Entries.{at, both, both-left, both-right, every}
+use Rattle.laws.proofs.Listed.{length-from, getD-from}
+use Rattle.laws.proofs.Entries.{at, every}
 use Rattle.aes_field.specs.Field.{_⊕_, xtime, bitsTimes, _•_, squares, inverse}
 use Rattle.aes_field.specs.Sbox.{rotl, affine, sbox, invAffine, invSbox, SBOX, INVSBOX}
 
@@ -100,7 +101,7 @@ INVSBOX-at k h = look invSbox k h
 -- ---- each table undoes the other, and their entries are bytes
 
 abbrev undoes : List ℕ → ℕ → ℕ → Bool
-undoes l k x = both (ltb x 256) (eqb (getD l x 0) k)
+undoes l k x = ltb x 256 && eqb (getD l x 0) k
 
 forward-undone : T (every (undoes backward) 0 forward)
 forward-undone = tt
@@ -112,10 +113,8 @@ backward-undone = tt
 entry : (l m : List ℕ) → T (every (undoes m) 0 l) → (k : ℕ) → k < length l → (getD l k 0 < 256) × (getD m (getD l k 0) 0 ≡ k)
 entry l m t k h =
     let x = getD l k 0 in
-    let hold : T (both (ltb x 256) (eqb (getD m x 0) k)) = at (undoes m) l t k h in (
-      ltb→lt x 256 (both-left (ltb x 256) (eqb (getD m x 0) k) hold),
-      eqb→eq (getD m x 0) k (both-right (ltb x 256) (eqb (getD m x 0) k) hold),
-    )
+    let hold = and-yes (ltb x 256) (eqb (getD m x 0) k) (at (undoes m) l t k h) in
+    (ltb→lt x 256 (hold .0), eqb→eq (getD m x 0) k (hold .1))
 
 module _ (k : ℕ) (h : k < 256) where
   pub SBOX-lt : getD SBOX k 0 < 256

@@ -42,7 +42,7 @@ fn keys_answer_c(r: KeysAnswer) -> CKeysAnswer
     let keys = keys_c(k);
     CKeysAnswer {
         answer: outcome_c(outcome),
-        keys: keys,
+        keys,
     }
 }
 

@@ -92,7 +92,7 @@ pub extern "C" fn malstrink_cbc_mac(
     let m = secure_cipher::cbc_mac(input, v, k1, k2);
     let full = m.full;
     CChain {
-        full: full,
+        full,
         calls: m.calls,
     }
 }

@@ -34,9 +34,9 @@ pub(crate) fn keys_c(keys: SessionKeys) -> CKeys
     let s_mac1 = keys.s_mac1;
     let s_mac2 = keys.s_mac2;
     CKeys {
-        s_enc: s_enc,
-        s_mac1: s_mac1,
-        s_mac2: s_mac2,
+        s_enc,
+        s_mac1,
+        s_mac2,
     }
 }
 

@@ -101,7 +101,7 @@ fn sealed_c(r: Sealed) -> CSealed
     CSealed {
         answer: length_c(answer),
         calls: r.calls,
-        session: session,
+        session,
     }
 }
 

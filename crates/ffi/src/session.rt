@@ -111,18 +111,18 @@ fn session_with(c: CSession, end: End, state: State) -> Session
     let s_mac2 = k.s_mac2;
     let chain = c.chain;
     Session {
-        end: end,
-        state: state,
-        scbk: scbk,
-        rnd_a: rnd_a,
-        rnd_b: rnd_b,
-        cuid: cuid,
+        end,
+        state,
+        scbk,
+        rnd_a,
+        rnd_b,
+        cuid,
         keys: SessionKeys {
-            s_enc: s_enc,
-            s_mac1: s_mac1,
-            s_mac2: s_mac2,
+            s_enc,
+            s_mac1,
+            s_mac2,
         },
-        chain: chain,
+        chain,
     }
 }
 
@@ -145,7 +145,7 @@ pub(crate) fn take(c: CSession) -> Taken
                 let session = session_with(c, end, state);
                 Taken {
                     outcome: Outcome::Done,
-                    session: session,
+                    session,
                 }
             }
             StateRead::Refused(e) => not_taken(c, e),
@@ -168,12 +168,12 @@ pub(crate) fn session_c(s: Session) -> CSession
     CSession {
         end: end_number(end),
         state: state_number(state),
-        scbk: scbk,
-        rnd_a: rnd_a,
-        rnd_b: rnd_b,
-        cuid: cuid,
-        keys: keys,
-        chain: chain,
+        scbk,
+        rnd_a,
+        rnd_b,
+        cuid,
+        keys,
+        chain,
     }
 }
 
@@ -196,7 +196,7 @@ pub(crate) fn stepped_c(r: Stepped) -> CStepped
     let session = session_c(next);
     CStepped {
         answer: outcome_c(outcome),
-        session: session,
+        session,
     }
 }
 
@@ -209,8 +209,8 @@ pub(crate) fn stepped_block_c(r: SteppedBlock) -> CSteppedBlock
     let session = session_c(next);
     CSteppedBlock {
         answer: outcome_c(outcome),
-        block: block,
-        session: session,
+        block,
+        session,
     }
 }
 
@@ -221,7 +221,7 @@ pub(crate) fn block_answer_c(r: BlockAnswer) -> CBlockAnswer
     let block = r.block;
     CBlockAnswer {
         answer: outcome_c(outcome),
-        block: block,
+        block,
     }
 }
 

@@ -2,25 +2,25 @@
 -- Assumes nothing.
 use mathlib.Core.Path.{_≡_, refl, sym, ap, ap₂, _∙_}
 use mathlib.Core.List.{List, [], _∷_, _++_, append-assoc, append-nil}
-use mathlib.Core.Bool.{Bool, true, false, not, cond}
+use mathlib.Core.Bool.{Bool, true, false, cond}
 use Prim.Native.Nat.{ℕ, _-_, suc, _+_, _*_, _/_, _%_, _≤_, _<_}
 use native.Mathlib.Numerals.{add-one}
 use native.Mathlib.Omega.{arith}
 use borrow.Author.Tests.{ltb-false, leb-false, eqb-true, eqb-false, not-false}
-use lib.Dec.{leb, eqb}
+use lib.Dec.{eqb}
 use lib.ListN.{length, getD, take, drop, length-drop, take-append-drop, drop-of-length-le}
 use lib.Seq.{length-take-le, take-suc, take-add, drop-cons, getD-drop, getD-take}
-use Rattle.packet_sums.specs.Checksum.{checksumOf}
 use Rattle.packet_sums.specs.Crc.{crcOf}
-use Rattle.laws.specs.Answer.{Answer.given, refuseIf, andThen}
+use Rattle.laws.specs.Answer.{Answer.given, andThen}
 use Rattle.packet_head.specs.Header.{Control, controlOf, ctrlByte}
 use Rattle.packet_head.specs.Block.{hasMac, scsOf, scbOf}
-use Rattle.packet_head.specs.Trailer.{Tail, Tail.checksum, Tail.crc, trailerLen, macLen}
+use Rattle.packet_head.specs.Trailer.{Tail, trailerLen, macLen}
 use Rattle.laws.specs.Bytes.{Bytes}
 use Rattle.laws.proofs.ByteLists.{bytes-take}
 use Rattle.laws.proofs.Answers.{Holds, holds-refuse, holds-choose, holds-then, holds-mono, holds-given}
 use Rattle.laws.proofs.Lists.{part-length}
-use Rattle.packet_parse.specs.Trailer.{crcGot, sumGot, trailerOf}
+use Rattle.laws.proofs.Listed.{listed}
+use Rattle.packet_parse.specs.Trailer.{crcGot, trailerOf}
 use Rattle.packet_parse.specs.Frame.{Head, Fields, BlockAt, BlockAt.noBlock, BlockAt.blockAt, MacAt, MacAt.noMac, MacAt.macFrom, macAt, lenOf, headOf, fieldsOf, partsOf, frameOf, parseOf}
 use Rattle.packet_build.specs.Build as made
 use Rattle.packet_build.specs.Build.{Parts, Block, Block.scb, blockBytes, headBytes, tailBytes, bytesOf, signedBytes, bodyBytes, buildOf, totalN}
@@ -29,18 +29,15 @@ use Rattle.packet_build.proofs.Sizes.{passes, bytesN-is}
 -- ---- the control byte
 
 control-there : (b : ℕ) → Holds (λ c. (ctrlByte c ≡ b) × (c .0 ≤ 3)) (controlOf b)
-unfolding controlOf refuseIf
-control-there b = go (leb 16 b) refl
+unfolding controlOf
+control-there b =
+    holds-refuse _ _ _ _ _ (λ h. (sum (leb-false 16 b h) (eqb (b / 4 % 2) 1) (eqb (b / 8) 1) refl refl, omega arith))
   where
     sum : b < 16 → (t u : Bool) → eqb (b / 4 % 2) 1 ≡ t → eqb (b / 8) 1 ≡ u → b % 4 + cond t 4 0 + cond u 8 0 ≡ b
     sum h true true e f = omega (arith, eqb-true (b / 4 % 2) 1 e, eqb-true (b / 8) 1 f)
     sum h true false e f = omega (arith, eqb-true (b / 4 % 2) 1 e, eqb-false (b / 8) 1 f)
     sum h false true e f = omega (arith, eqb-false (b / 4 % 2) 1 e, eqb-true (b / 8) 1 f)
     sum h false false e f = omega (arith, eqb-false (b / 4 % 2) 1 e, eqb-false (b / 8) 1 f)
-
-    go : (t : Bool) → leb 16 b ≡ t → Holds (λ c. (ctrlByte c ≡ b) × (c .0 ≤ 3)) (controlOf b)
-    go true e = rw e tt
-    go false e = rw e (sum (leb-false 16 b e) (eqb (b / 4 % 2) 1) (eqb (b / 8) 1) refl refl, omega arith)
 
 -- ---- the trailer
 
@@ -54,50 +51,18 @@ last-two f h =
     drop-cons f (length f - 2) 0 (omega arith) ∙ ap (λ (n : ℕ). getD f (length f - 2) 0 ∷ drop n f) e ∙ ap (λ (r : List ℕ). getD f (length f - 2) 0 ∷ r) (last-one f (omega arith))
 
 trailer-there : (f : List ℕ) (t : Bool) → Bytes f → 2 ≤ length f → Holds (λ x. tailBytes t (take (length f - trailerLen t) f) ≡ drop (length f - trailerLen t) f) (trailerOf f t)
-unfolding trailerOf refuseIf
-trailer-there f true b h = go (eqb (crcGot f) w) refl
-  where
-    w : ℕ
-    w = crcOf (take (length f - 2) f)
-
-    P : Tail → Type 0
-    P x = tailBytes true (take (length f - 2) f) ≡ drop (length f - 2) f
-
-    go : (t : Bool) → eqb (crcGot f) w ≡ t → Holds P (refuseIf (not (eqb (crcGot f) w)) 7 (crcGot f ∷ w ∷ []) (given (crc (crcGot f))))
-    go true e = rw e
-        (let q : crcGot f ≡ w = eqb-true _ _ e in
-        let lo : w % 256 ≡ getD f (length f - 2) 0 = omega (arith, b (length f - 2), b (length f - 1)) in
-        let hi : w / 256 ≡ getD f (length f - 1) 0 = omega (arith, b (length f - 2), b (length f - 1)) in
-        ap₂ (λ (x y : ℕ). x ∷ y ∷ []) lo hi ∙ sym (last-two f h))
-    go false e = rw e tt
-trailer-there f false b h = go (eqb (sumGot f) w) refl
-  where
-    w : ℕ
-    w = checksumOf (take (length f - 1) f)
-
-    P : Tail → Type 0
-    P x = tailBytes false (take (length f - 1) f) ≡ drop (length f - 1) f
-
-    go : (t : Bool) → eqb (sumGot f) w ≡ t → Holds P (refuseIf (not (eqb (sumGot f) w)) 8 (sumGot f ∷ w ∷ []) (given (checksum (sumGot f))))
-    go true e = rw e (ap (λ (x : ℕ). x ∷ []) (sym (eqb-true _ _ e)) ∙ sym (last-one f (omega arith)))
-    go false e = rw e tt
+unfolding trailerOf
+trailer-there f true b h =
+    holds-refuse _ _ _ _ _ (λ e.
+    let w = crcOf (take (length f - 2) f) in
+    let q : crcGot f ≡ w = eqb-true _ _ (not-false _ e) in
+    let lo : w % 256 ≡ getD f (length f - 2) 0 = omega (arith, b (length f - 2), b (length f - 1)) in
+    let hi : w / 256 ≡ getD f (length f - 1) 0 = omega (arith, b (length f - 2), b (length f - 1)) in
+    ap₂ (λ (x y : ℕ). x ∷ y ∷ []) lo hi ∙ sym (last-two f h))
+trailer-there f false b h =
+    holds-refuse _ _ _ _ _ (λ e. ap (λ (x : ℕ). x ∷ []) (sym (eqb-true _ _ (not-false _ e))) ∙ sym (last-one f (omega arith)))
 
 -- ---- the bytes
-
--- the first five
-five : (f : List ℕ) → 5 ≤ length f → take 5 f ≡ getD f 0 0 ∷ getD f 1 0 ∷ getD f 2 0 ∷ getD f 3 0 ∷ getD f 4 0 ∷ []
-five [] h = absurd (omega arith)
-five (a ∷ []) h = absurd (omega arith)
-five (a ∷ b ∷ []) h = absurd (omega arith)
-five (a ∷ b ∷ c ∷ []) h = absurd (omega arith)
-five (a ∷ b ∷ c ∷ d ∷ []) h = absurd (omega arith)
-five (a ∷ b ∷ c ∷ d ∷ e ∷ f) h = refl
-
--- two more, as they stand after five
-pair : (g : List ℕ) → 2 ≤ length g → take 2 g ≡ getD g 0 0 ∷ getD g 1 0 ∷ []
-pair [] h = absurd (omega arith)
-pair (a ∷ []) h = absurd (omega arith)
-pair (a ∷ b ∷ g) h = refl
 
 -- the parts that stand at the places of F in f
 abbrev pub blockFrom : BlockAt → List ℕ → Block
@@ -133,7 +98,7 @@ head-there : (f : List ℕ) (a : ℕ) (c : Control) → Headed f a c → headByt
 head-there f a c h =
     let lo : length f % 256 ≡ getD f 2 0 = omega (arith, h .len, h .bytes 2) in
     let hi : length f / 256 ≡ getD f 3 0 = omega (arith, h .len, h .bytes 2) in
-    rw (← h .som, ← h .addr, lo, hi, h .ctrl) (sym (five f (h .enough)))
+    rw (← h .som, ← h .addr, lo, hi, h .ctrl) (listed f 5 (h .enough))
 
 -- ---- from the code on
 
@@ -206,13 +171,8 @@ parts-there f a c k at mac h p =
 -- ---- the block
 
 type-there : (b : ℕ) → Holds (λ ty. ty ≡ b) (scsOf b)
-unfolding scsOf refuseIf
-type-there b = go (leb 0x11 b) (leb b 0x18) refl refl
-  where
-    go : (t u : Bool) → leb 0x11 b ≡ t → leb b 0x18 ≡ u → Holds (λ ty. ty ≡ b) (scsOf b)
-    go true true e f = rw (e, f) refl
-    go true false e f = rw (e, f) tt
-    go false u e f = rw e tt
+unfolding scsOf
+type-there b = holds-refuse _ _ _ _ _ (λ h. refl)
 
 record Blocked (g : List ℕ) (b : ℕ × ℕ) : Type 0 where
   type : b .0 ≡ getD g 1 0
@@ -240,7 +200,7 @@ placed-block f a c b h e k =
       front =
           ap₂ (λ (x y : List ℕ). x ++ y) (head-there f a c h)
           (ap₂ (λ (x y : ℕ). x ∷ y ∷ take (b .1) (drop 7 f)) z (k .type)
-          ∙ ap (λ (y : List ℕ). y ++ take (b .1) (drop 7 f)) (sym (pair (drop 5 f) (k .two))))
+          ∙ ap (λ (y : List ℕ). y ++ take (b .1) (drop 7 f)) (listed (drop 5 f) 2 (k .two)))
           ∙ sym (append-assoc (take 5 f) (take 2 (drop 5 f)) (take (b .1) (drop 7 f)))
           ∙ ap (λ (y : List ℕ). y ++ take (b .1) (drop 7 f)) (sym (take-add 5 2 f)) ∙ sym (take-add 7 (b .1) f);
       size = omega arith;

@@ -14,7 +14,7 @@ use lib.Dec.{T, eqb, eqb→eq}
 use lib.ListN.{getD}
 use Rattle.laws.specs.Table.{from}
 use Rattle.laws.proofs.Entries.{every, at}
-use Rattle.laws.proofs.Fill.{length-from, getD-from}
+use Rattle.laws.proofs.Listed.{length-from, getD-from}
 use Rattle.laws.proofs.Xor.{xor-assoc, xor-left-comm}
 
 -- what f gives for the exclusive or of two numbers is the exclusive or of what it gives for each

@@ -43,7 +43,7 @@ fn session_of(x: &[u8]) -> CSession {
         rnd_a: a,
         rnd_b: b,
         cuid: u,
-        keys: keys,
+        keys,
         chain: c,
     }
 }

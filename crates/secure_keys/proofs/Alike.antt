@@ -1,6 +1,6 @@
 -- Two lists of one length compared byte by byte, the differences gathered in d: what is gathered and what is left tell whether they are equal.
 -- Assumes nothing.
-use mathlib.Core.Bool.{Bool, true, false, _&&_}
+use mathlib.Core.Bool.{Bool, true, false, _&&_, and-assoc}
 use mathlib.Core.List.{List, [], _∷_}
 use mathlib.Core.Path.{_≡_, refl, sym, ap, ap₂, _∙_}
 use Prim.Native.Nat.{ℕ, suc, _+_, _≤_, _<_}
@@ -27,10 +27,6 @@ module _ (d x y : ℕ) where
       (omega (arith, or-add-and d (bitXor x y), and-le-l d (bitXor x y), xor-add-and x y, and-le-l x y, and-le-r x y)))
   gather false u e f =
       ne-eqb (bitOr d (bitXor x y)) 0 (λ o. eqb-false d 0 e (omega (arith, or-add-and d (bitXor x y), and-le-r d (bitXor x y))))
-
-and-assoc : (s t u : Bool) → (s && t) && u ≡ s && (t && u)
-and-assoc true t u = refl
-and-assoc false t u = refl
 
 eql-cons : (x y : ℕ) (a b : List ℕ) → eql (x ∷ a) (y ∷ b) ≡ eqb x y && eql a b
 unfolding eql

@@ -1,3 +1,2 @@
-mod Listed
 mod Alike
 pub mod KeysLaws

@@ -2,7 +2,6 @@
 -- Assumes nothing.
 use Prim.Native.Nat.{ℕ}
 use mathlib.Core.List.{List, _∷_, _++_}
-use mathlib.Core.Path.{_≡_}
 use lib.ListN.{take}
 use Rattle.laws.specs.Bytes.{Exactly, zeros, compl}
 use Rattle.aes.specs.Cipher.{E}

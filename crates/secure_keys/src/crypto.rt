@@ -65,9 +65,9 @@ impl SessionKeys {
         let s_mac1 = session_key(&w, &t, 0x01, rnd_a);
         let s_mac2 = session_key(&w, &t, 0x02, rnd_a);
         SessionKeys {
-            s_enc: s_enc,
-            s_mac1: s_mac1,
-            s_mac2: s_mac2,
+            s_enc,
+            s_mac1,
+            s_mac2,
         }
     }
 }

@@ -6,11 +6,12 @@ use mathlib.Core.List.{List, [], _∷_, _++_}
 use Prim.Native.Nat.{ℕ, _+_, _-_, _/_, _%_, _≤_}
 use native.Mathlib.Omega.{arith}
 use lib.ListN.{length, take, getD, length-append, length-take}
-use lib.Seq.{take-suc, length-take-le}
+use lib.Seq.{length-take-le}
 use borrow.Rule.Slice.PartMut.{putMid}
 use Rattle.laws.specs.Bytes.{compl}
 use Rattle.laws.specs.Over.{write}
 use Rattle.laws.proofs.Overwrite.{write-write, take-write}
+use Rattle.laws.proofs.Listed.{listed}
 use Rattle.packet_sums.specs.Crc.{crcOf, lowFirst}
 use Rattle.packet_build.specs.Build.{Block.scb, bodyBytes, tailBytes, bytesOf}
 use Rattle.packet_build.proofs.Sizes.{body-length}
@@ -30,9 +31,6 @@ head-bytes a b total v sqn k t code ea ev ek =
     let e : v + 12 ≡ sqn + 4 + 8 = omega arith in
     rw (ea, e, ek)
 
-first-four : (f : List ℕ) → 4 ≤ length f → getD f 0 0 ∷ getD f 1 0 ∷ getD f 2 0 ∷ getD f 3 0 ∷ [] ≡ take 4 f
-first-four f h = sym (rw (take-suc f 3 0 (omega arith), take-suc f 2 0 (omega arith), take-suc f 1 0 (omega arith), take-suc f 0 0 (omega arith)))
-
 -- the first four bytes of f, and the CRC of all before it, each over a part that was lent
 pub end-written : (o f y c z : List ℕ) (end : ℕ) → length f ≡ 16 → y ≡ getD f 0 0 ∷ getD f 1 0 ∷ getD f 2 0 ∷ getD f 3 0 ∷ []
     → c ≡ lowFirst (crcOf (take (end + 4) (putMid end (end + 4 - end) o y))) → z ≡ c
@@ -41,7 +39,7 @@ pub end-written : (o f y c z : List ℕ) (end : ℕ) → length f ≡ 16 → y �
 unfolding lowFirst
 end-written o f y c z end n ey ec ez =
     let w : putMid end (end + 4 - end) o y ≡ write o end (take 4 f) =
-    part-write o end (end + 4 - end) y (ap length ey ∙ omega arith) ∙ ap (write o end) (ey ∙ first-four f (omega arith)) in
+    part-write o end (end + 4 - end) y (ap length ey ∙ omega arith) ∙ ap (write o end) (ey ∙ listed f 4 (omega arith)) in
     part-write (putMid end (end + 4 - end) o y) (end + 4) (end + 6 - (end + 4)) z (ap length (ez ∙ ec) ∙ omega arith)
     ∙ ap₂ (λ (x t : List ℕ). write x (end + 4) t) w (ez ∙ ec ∙ ap (λ (x : List ℕ). tailBytes true (take (end + 4) x)) w)
 

@@ -180,7 +180,7 @@ fn refused(session: Session, e: Refusal) -> Sealed
     Sealed {
         answer: LengthAnswer::Refused(e),
         calls: 0,
-        session: session,
+        session,
     }
 }
 

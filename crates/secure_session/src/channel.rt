@@ -128,7 +128,7 @@ impl Session {
             let keys = self.keys;
             KeysAnswer {
                 outcome: Outcome::Done,
-                keys: keys,
+                keys,
             }
         } else {
             let none = session::no_keys();

@@ -97,12 +97,12 @@ fn fresh(end: End, scbk: [u8; 16], cuid: [u8; 8]) -> Session
 {
     let none = no_keys();
     Session {
-        end: end,
+        end,
         state: State::Disconnected,
-        scbk: scbk,
+        scbk,
         rnd_a: [0; 8],
         rnd_b: [0; 8],
-        cuid: cuid,
+        cuid,
         keys: none,
         chain: [0; 16],
     }
@@ -170,14 +170,14 @@ impl Session {
         let scbk = self.scbk;
         let chain = self.chain;
         Session {
-            end: end,
-            state: state,
-            scbk: scbk,
-            rnd_a: rnd_a,
-            rnd_b: rnd_b,
-            cuid: cuid,
-            keys: keys,
-            chain: chain,
+            end,
+            state,
+            scbk,
+            rnd_a,
+            rnd_b,
+            cuid,
+            keys,
+            chain,
         }
     }
 

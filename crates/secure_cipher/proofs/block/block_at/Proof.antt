@@ -5,7 +5,8 @@ use mathlib.Core.Path.{sym, _∙_}
 use native.Mathlib.Omega.{arith}
 use lib.ListN.{getD, take, drop}
 use lib.Seq.{getD-take, getD-drop}
-use Rattle.laws.proofs.Fill.{Filled, fill-none, fill-more, fill-all, whole}
+use Rattle.laws.proofs.Fill.{Filled, fill-none, fill-more, fill-all}
+use Rattle.laws.proofs.Listed.{whole}
 use Rattle.laws.proofs.Lists.{part-length}
 use Rattle.secure_cipher.proofs.block.block_at.Statement.{statement}
 use Rattle.secure_cipher.proofs.block.block_at.Tie as tie

@@ -7,7 +7,8 @@ use borrow.Author.Needs.{needs}
 use lib.ListN.{length, getD}
 use Rattle.laws.specs.Bytes.{xorl}
 use Rattle.laws.proofs.ByteLists.{length-xorl, getD-xorl}
-use Rattle.laws.proofs.Fill.{Filled, fill-none, fill-more, fill-all, whole}
+use Rattle.laws.proofs.Fill.{Filled, fill-none, fill-more, fill-all}
+use Rattle.laws.proofs.Listed.{whole}
 use Rattle.secure_cipher.proofs.block.xor.Statement.{statement}
 use Rattle.secure_cipher.proofs.block.xor.Tie as tie
 

@@ -7,7 +7,8 @@ use borrow.Author.Needs.{needs}
 use lib.ListN.{length, getD}
 use Rattle.laws.specs.Bytes.{compl}
 use Rattle.laws.proofs.ByteLists.{length-compl, getD-compl}
-use Rattle.laws.proofs.Fill.{Filled, fill-none, fill-more, fill-all, whole}
+use Rattle.laws.proofs.Fill.{Filled, fill-none, fill-more, fill-all}
+use Rattle.laws.proofs.Listed.{whole}
 use Rattle.secure_cipher.proofs.cipher.complement_icv.Statement.{statement}
 use Rattle.secure_cipher.proofs.cipher.complement_icv.Tie as tie
 

@@ -4,7 +4,7 @@ use mathlib.Core.Path.{ap}
 use native.Mathlib.Omega.{arith}
 use borrow.Author.Needs.{needs}
 use Rattle.laws.specs.Bytes.{compl}
-use Rattle.secure_keys.proofs.Listed.{all-listed}
+use Rattle.laws.proofs.Listed.{all-listed}
 use Rattle.secure_keys.proofs.crypto.complement.Tie as tie
 use Rattle.secure_keys.proofs.crypto.complement.Statement.{statement}
 

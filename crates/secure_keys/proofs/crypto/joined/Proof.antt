@@ -5,7 +5,7 @@ use mathlib.Core.Path.{ap₂}
 use Prim.Native.Nat.{ℕ}
 use native.Mathlib.Omega.{arith}
 use borrow.Author.Needs.{needs}
-use Rattle.secure_keys.proofs.Listed.{all-listed}
+use Rattle.laws.proofs.Listed.{all-listed}
 use Rattle.secure_keys.proofs.crypto.joined.Tie as tie
 use Rattle.secure_keys.proofs.crypto.joined.Statement.{statement}
 

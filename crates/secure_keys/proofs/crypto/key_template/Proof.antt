@@ -6,7 +6,7 @@ use Prim.Native.Nat.{ℕ}
 use native.Mathlib.Omega.{arith}
 use borrow.Author.Needs.{needs}
 use Rattle.laws.specs.Bytes.{zeros}
-use Rattle.secure_keys.proofs.Listed.{listed}
+use Rattle.laws.proofs.Listed.{listed}
 use Rattle.secure_keys.proofs.crypto.key_template.Tie as tie
 use Rattle.secure_keys.proofs.crypto.key_template.Statement.{statement}
 
