@@ -7,7 +7,7 @@ use native.Mathlib.Nat.{pow-suc, div-one, div-div-eq-div-mul, add-mul, mul-right
 use native.Mathlib.Omega.{arith}
 use lib.Dec.{lit<}
 use lib.Bits.{bitAnd, bitXor, and-block, xor-block, and-mask, and-high, and-le-r, and-zero-r, xor-zero-r, xor-mod, xor-shr}
-use lib.ListN.{length, replicate}
+use lib.ListN.{length, getD, replicate}
 use Rattle.laws.specs.Bytes.{Bytes, xorl}
 use Rattle.laws.proofs.ByteLists.{bytes-nil, bytes-cons, bytes-replicate}
 use Rattle.laws.proofs.Xor.{bit-ind}
@@ -148,19 +148,26 @@ pub after-is : (x i : ℕ) → x / 256 ^ i ≡ after x i
 after-is x zero = div-one x
 after-is x (suc i) = ap (λ (n : ℕ). x / n) (pow-suc 256 i) ∙ sym (div-div-eq-div-mul x (256 ^ i) 256) ∙ ap (λ (y : ℕ). y / 256) (after-is x i)
 
+-- a byte, and what a table has for it
+pub byte-at : (x i : ℕ) → x / 256 ^ i % 256 ≡ after x i % 256
+byte-at x i = ap (λ (z : ℕ). z % 256) (after-is x i)
+
+pub entry-at : (t : List ℕ) (x i : ℕ) → getD t (x / 256 ^ i % 256) 0 ≡ getD t (after x i % 256) 0
+entry-at t x i = ap (λ (z : ℕ). getD t z 0) (byte-at x i)
+
+-- the bytes of a number under a mask
+under : (y : ℕ) (m : List ℕ) → y < 2 ^ 64 → length m ≡ 8 → Bytes m → bitAnd y (packed m) ≡ packed (zip bitAnd (unpacked 8 y) m)
+unfolding unpacked
+under y m h e b = ap (λ (z : ℕ). bitAnd z (packed m)) (sym (packed-unpacked 8 y h)) ∙ packed-and (unpacked 8 y) m (sym e) (unpacked-bytes 8 y) b
+
 module _ (x : ℕ) (h : x < 2 ^ 64) where
   abbrev g : ℕ → ℕ
   g i = after x i
 
-  is-packed : packed (unpacked 8 x) ≡ x
-  is-packed = packed-unpacked 8 x h
-
-  -- the bytes of x under a mask that is the same for each
+  -- under a mask that is the same for each byte
   masked : (k m : ℕ) → k < 256 → packed (replicate 8 k) ≡ m → bitAnd x m ≡ packed (map (λ a. bitAnd a k) (unpacked 8 x))
   unfolding unpacked
-  masked k m l e =
-      ap₂ bitAnd (sym is-packed) (sym e)
-      ∙ packed-and (unpacked 8 x) (replicate 8 k) refl (unpacked-bytes 8 x) (bytes-replicate 8 k l)
+  masked k m l e = ap (bitAnd x) (sym e) ∙ under x (replicate 8 k) h refl (bytes-replicate 8 k l)
 
   low-bits : bitAnd x 0x7f7f7f7f7f7f7f7f * 2 ≡ packed (map (λ a. a % 128 * 2) (unpacked 8 x))
   unfolding packed
@@ -209,20 +216,16 @@ module _ (x : ℕ) (h : x < 2 ^ 64) where
   unfolding packed unpacked columns
   turn-one =
       let lower : bitAnd (x / 256) 0x00ffffff00ffffff ≡ packed (eight (g 1 % 256) (g 2 % 256) (g 3 % 256) 0 (g 5 % 256) (g 6 % 256) (g 7 % 256) 0) =
-      ap (λ (y : ℕ). bitAnd y 0x00ffffff00ffffff) (sym (packed-unpacked 8 (x / 256) (omega arith)))
-      ∙ packed-and (unpacked 8 (x / 256)) (eight 255 255 255 0 255 255 255 0) refl (unpacked-bytes 8 (x / 256)) (eight-bytes full full full empty full full full empty)
-      ∙ (λ i. packed (eight (keep (g 1) i) (keep (g 2) i) (keep (g 3) i) (and-zero-r (g 4 % 256) i) (keep (g 5) i) (keep (g 6) i) (keep (g 7) i) (and-zero-r (g 8 % 256) i))) in
+      under (x / 256) (eight 255 255 255 0 255 255 255 0) (omega arith) refl (eight-bytes full full full empty full full full empty) ∙ simp (keep, and-zero-r) in
       let upper : bitAnd x 0x000000ff000000ff * 2 ^ 24 % 2 ^ 64 ≡ packed (eight 0 0 0 (g 0 % 256) 0 0 0 (g 4 % 256)) =
       ap (λ (y : ℕ). y * 2 ^ 24 % 2 ^ 64)
-      (ap (λ (y : ℕ). bitAnd y 0x000000ff000000ff) (sym is-packed)
-      ∙ packed-and (unpacked 8 x) (eight 255 0 0 0 255 0 0 0) refl (unpacked-bytes 8 x) (eight-bytes full empty empty empty full empty empty empty)
-      ∙ (λ i. packed (eight (keep (g 0) i) (and-zero-r (g 1 % 256) i) (and-zero-r (g 2 % 256) i) (and-zero-r (g 3 % 256) i) (keep (g 4) i) (and-zero-r (g 5 % 256) i) (and-zero-r (g 6 % 256) i) (and-zero-r (g 7 % 256) i))))
+      (under x (eight 255 0 0 0 255 0 0 0) h refl (eight-bytes full empty empty empty full empty empty empty) ∙ simp (keep, and-zero-r))
       ∙ up3 (g 0 % 256) (g 4 % 256) (byte (g 0)) (byte (g 4)) in
       ap₂ bitXor lower upper
       ∙ packed-xor (eight (g 1 % 256) (g 2 % 256) (g 3 % 256) 0 (g 5 % 256) (g 6 % 256) (g 7 % 256) 0) (eight 0 0 0 (g 0 % 256) 0 0 0 (g 4 % 256)) refl
       (eight-bytes (byte (g 1)) (byte (g 2)) (byte (g 3)) empty (byte (g 5)) (byte (g 6)) (byte (g 7)) empty)
       (eight-bytes empty empty empty (byte (g 0)) empty empty empty (byte (g 4)))
-      ∙ (λ i. packed (eight (xor-zero-r (g 1 % 256) i) (xor-zero-r (g 2 % 256) i) (xor-zero-r (g 3 % 256) i) (g 0 % 256) (xor-zero-r (g 5 % 256) i) (xor-zero-r (g 6 % 256) i) (xor-zero-r (g 7 % 256) i) (g 4 % 256)))
+      ∙ simp xor-zero-r
 
   -- each byte replaced by the one two below it
   pub turn-two : bitXor (bitAnd (x / 65536) 0x0000ffff0000ffff) (bitAnd x 0x0000ffff0000ffff * 2 ^ 16 % 2 ^ 64)
@@ -231,17 +234,14 @@ module _ (x : ℕ) (h : x < 2 ^ 64) where
   turn-two =
       let two : x / 65536 ≡ x / 256 / 256 = omega arith in
       let lower : bitAnd (x / 65536) 0x0000ffff0000ffff ≡ packed (eight (g 2 % 256) (g 3 % 256) 0 0 (g 6 % 256) (g 7 % 256) 0 0) =
-      ap (λ (y : ℕ). bitAnd y 0x0000ffff0000ffff) (two ∙ sym (packed-unpacked 8 (x / 256 / 256) (omega arith)))
-      ∙ packed-and (unpacked 8 (x / 256 / 256)) (eight 255 255 0 0 255 255 0 0) refl (unpacked-bytes 8 (x / 256 / 256)) (eight-bytes full full empty empty full full empty empty)
-      ∙ (λ i. packed (eight (keep (g 2) i) (keep (g 3) i) (and-zero-r (g 4 % 256) i) (and-zero-r (g 5 % 256) i) (keep (g 6) i) (keep (g 7) i) (and-zero-r (g 8 % 256) i) (and-zero-r (g 9 % 256) i))) in
+      ap (λ (y : ℕ). bitAnd y 0x0000ffff0000ffff) two
+      ∙ under (x / 256 / 256) (eight 255 255 0 0 255 255 0 0) (omega arith) refl (eight-bytes full full empty empty full full empty empty) ∙ simp (keep, and-zero-r) in
       let upper : bitAnd x 0x0000ffff0000ffff * 2 ^ 16 % 2 ^ 64 ≡ packed (eight 0 0 (g 0 % 256) (g 1 % 256) 0 0 (g 4 % 256) (g 5 % 256)) =
       ap (λ (y : ℕ). y * 2 ^ 16 % 2 ^ 64)
-      (ap (λ (y : ℕ). bitAnd y 0x0000ffff0000ffff) (sym is-packed)
-      ∙ packed-and (unpacked 8 x) (eight 255 255 0 0 255 255 0 0) refl (unpacked-bytes 8 x) (eight-bytes full full empty empty full full empty empty)
-      ∙ (λ i. packed (eight (keep (g 0) i) (keep (g 1) i) (and-zero-r (g 2 % 256) i) (and-zero-r (g 3 % 256) i) (keep (g 4) i) (keep (g 5) i) (and-zero-r (g 6 % 256) i) (and-zero-r (g 7 % 256) i))))
+      (under x (eight 255 255 0 0 255 255 0 0) h refl (eight-bytes full full empty empty full full empty empty) ∙ simp (keep, and-zero-r))
       ∙ up2 (g 0 % 256) (g 1 % 256) (g 4 % 256) (g 5 % 256) (byte (g 0)) (byte (g 1)) (byte (g 4)) (byte (g 5)) in
       ap₂ bitXor lower upper
       ∙ packed-xor (eight (g 2 % 256) (g 3 % 256) 0 0 (g 6 % 256) (g 7 % 256) 0 0) (eight 0 0 (g 0 % 256) (g 1 % 256) 0 0 (g 4 % 256) (g 5 % 256)) refl
       (eight-bytes (byte (g 2)) (byte (g 3)) empty empty (byte (g 6)) (byte (g 7)) empty empty)
       (eight-bytes empty empty (byte (g 0)) (byte (g 1)) empty empty (byte (g 4)) (byte (g 5)))
-      ∙ (λ i. packed (eight (xor-zero-r (g 2 % 256) i) (xor-zero-r (g 3 % 256) i) (g 0 % 256) (g 1 % 256) (xor-zero-r (g 6 % 256) i) (xor-zero-r (g 7 % 256) i) (g 4 % 256) (g 5 % 256)))
+      ∙ simp xor-zero-r

@@ -5,10 +5,8 @@ use mathlib.Core.Bool.{Bool, true, false, not}
 use mathlib.Core.List.{List, [], _∷_}
 use Prim.Native.Nat.{ℕ, _≤_, _<_}
 use borrow.Author.Tests.{lt-ltb, le-ltb, ltb-false, not-true, not-false}
-use lib.Dec.{ltb}
 use lib.ListN.{length}
 use Rattle.laws.specs.Answer.{Answer, Answer.given, Answer.refused, refuseIf}
-use Rattle.laws.specs.Over.{write}
 use Rattle.laws.proofs.Answers.{Holds, holds-refuse, holds-given}
 use Rattle.refusal.specs.Paper.{refusalOf}
 use Rattle.refusal.specs.declared.Refusal.{Refusal}
@@ -16,32 +14,24 @@ use Rattle.refusal.specs.declared.Refusal.the-variants.{WrongState}
 use Rattle.secure_cipher.specs.declared.mac.ChainMac.{ChainMac}
 use Rattle.secure_session.specs.Session.{isSecure, sendFrom, sent}
 use Rattle.secure_session.specs.declared.session.Session.{Session}
-use Rattle.secure_seal.specs.Seal.{Asked, totalOf, sealedFrame, sealRun, SealDone, afterSeal, sealOf, sealTold}
-use Rattle.secure_seal.specs.Core.{Put, frameTest, refusedWith}
+use Rattle.secure_seal.specs.Seal.{Asked, totalOf, sealedFrame, frameTest, sealing, sealRun, SealDone, afterSeal, sealOf, sealTold}
+use Rattle.secure_seal.specs.Core.{Put, refusedWith}
 use Rattle.secure_seal.specs.declared.frame.Sealed.{Sealed}
 
 abbrev done : Answer ℕ → Session → List ℕ → ℕ → SealDone
 done a s o n = record { answer = a; session = s; out = o; steps = n }
 
 pub seal-not-secure : (s : Session) (q : Asked) (o : List ℕ) → isSecure (s .state) ≡ false → done (refused 16 []) s o 0 ≡ sealOf s q o
-unfolding sealOf sealRun afterSeal
+unfolding sealOf sealRun sealing afterSeal refuseIf
 seal-not-secure s q o e = rw e
 
 -- what the tests of the frame leave
 abbrev pub picked : Session → Asked → List ℕ → Answer ℕ → SealDone
-picked s q o (given t) = done (given t) (sent s (sealedFrame (s .keys) (sendFrom s) q .full)) (write o 0 (sealedFrame (s .keys) (sendFrom s) q .bytes)) (sealedFrame (s .keys) (sendFrom s) q .steps)
-picked s q o (refused n vs) = done (refused n vs) s o 0
-
-by-tests : (s : Session) (q : Asked) (o : List ℕ) (x y z : Bool) → isSecure (s .state) ≡ true → ltb 3 (q .sqn) ≡ x → ltb 65535 (totalOf q) ≡ y → ltb (length o) (totalOf q) ≡ z
-    → picked s q o (frameTest (q .sqn) (totalOf q) (length o)) ≡ sealOf s q o
-unfolding sealOf sealRun afterSeal frameTest refuseIf
-by-tests s q o true y z e ex ey ez = rw (e, ex)
-by-tests s q o false true z e ex ey ez = rw (e, ex, ey)
-by-tests s q o false false true e ex ey ez = rw (e, ex, ey, ez)
-by-tests s q o false false false e ex ey ez = rw (e, ex, ey, ez)
+picked s q o a = let r = sealing (sealedFrame (s .keys) (sendFrom s) q) o a in done (r .answer) (afterSeal s (r .moved)) (r .out) (r .steps)
 
 pub seal-tested : (s : Session) (q : Asked) (o : List ℕ) → isSecure (s .state) ≡ true → picked s q o (frameTest (q .sqn) (totalOf q) (length o)) ≡ sealOf s q o
-seal-tested s q o e = by-tests s q o _ _ _ e refl refl refl
+unfolding sealOf sealRun refuseIf
+seal-tested s q o e = rw e
 
 -- ---- the tests of the frame
 
@@ -89,10 +79,12 @@ module _ (s : Session) (q : Asked) (o : List ℕ) (b : Bool) (eb : b ≡ isSecur
     tested = ap (picked s q o) ea ∙ seal-tested s q o (sym eb ∙ not-false b secure)
 
     pub told-refused : {r : Sealed} (e : Refusal) → a ≡ refusalOf e → r ≡ refusedWith s e → sealTold r o ≡ sealOf s q o
+    unfolding sealing afterSeal
     told-refused e h er = ap (λ (x : Sealed). sealTold x o) er ∙ ap (picked s q o) (sym h) ∙ tested
 
     pub told-done : (t : ℕ) (m : ChainMac) (v o₂ : List ℕ) (s₂ : Session) → a ≡ given t → v ≡ sendFrom s → Put (sealedFrame (s .keys) v q) o o₂ m → s₂ ≡ sent s (m .full)
         → done (given t) s₂ o₂ (m .calls) ≡ sealOf s q o
+    unfolding sealing afterSeal
     told-done t m v o₂ s₂ h ev p es =
         let f : Put (sealedFrame (s .keys) (sendFrom s) q) o o₂ m = rw ev at p in
         (λ i. done (given t) ((es ∙ ap (sent s) (f .mac)) i) (f .here i) (f .counted i)) ∙ ap (picked s q o) (sym h) ∙ tested

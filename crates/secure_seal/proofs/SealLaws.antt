@@ -32,7 +32,7 @@ use Rattle.secure_cipher.proofs.CbcLaws.{length-hide, bytes-hide, steps-hide}
 use Rattle.secure_cipher.proofs.MacLaws.{mac-block, mac-steps}
 use Rattle.secure_session.specs.Session.{isSecure}
 use Rattle.secure_session.specs.declared.session.State.{State}
-use Rattle.secure_seal.specs.Seal.{typeFor, dataLen, dataOf, Asked, totalOf, Sealable, partsWith, bodyWith, sealedFrame, sealRun}
+use Rattle.secure_seal.specs.Seal.{typeFor, dataLen, dataOf, Asked, totalOf, Sealable, partsWith, bodyWith, sealedFrame, frameTest, sealing, sealRun}
 use Rattle.secure_seal.specs.declared.frame.Direction.{Direction}
 use Rattle.secure_seal.specs.declared.frame.Direction.the-variants.{AcuToPd, PdToAcu}
 
@@ -261,5 +261,5 @@ pub seals : (t : State) (k : SessionKeys) (v : List ℕ) (q : Asked) (o : List �
       out = write o 0 (sealedFrame k v q .bytes);
       steps = sealedFrame k v q .steps;
     }
-unfolding sealRun
+unfolding sealRun sealing frameTest refuseIf
 seals t k v q o hs h ho = rw (hs, le-ltb 3 (q .sqn) (h .sqn), le-ltb 65535 (totalOf q) (h .total), le-ltb (length o) (totalOf q) ho)

@@ -2,9 +2,7 @@
 -- Assumes nothing.
 use Prim.Native.Nat.{ℕ}
 use mathlib.Core.Path.{_≡_}
-use mathlib.Core.List.{List, [], _∷_}
-use lib.Dec.{ltb}
-use Rattle.laws.specs.Answer.{Answer, Answer.given, refuseIf}
+use mathlib.Core.List.{List}
 use Rattle.laws.specs.Over.{write}
 use Rattle.refusal.specs.declared.Refusal.{Refusal}
 use Rattle.secure_cipher.specs.declared.mac.ChainMac.{ChainMac}
@@ -12,14 +10,6 @@ use Rattle.secure_cipher.specs.declared.pad.LengthAnswer.{LengthAnswer}
 use Rattle.secure_session.specs.declared.session.Session.{Session}
 use Rattle.secure_seal.specs.Seal.{SealedFrame}
 use Rattle.secure_seal.specs.declared.frame.Sealed.{Sealed}
-
--- a frame of t bytes, for a buffer of `have`: 10, 12, 18
-unfoldable pub frameTest : ℕ → ℕ → ℕ → Answer ℕ
-frameTest n t have =
-    refuseIf (ltb 3 n) 10 (n ∷ [])
-    (refuseIf (ltb 65535 t) 12 (t ∷ 65535 ∷ [])
-    (refuseIf (ltb have t) 18 (t ∷ have ∷ [])
-    (given t)))
 
 -- the frame stands at the front of the buffer; its full MAC, and all cipher calls
 pub record Put (f : SealedFrame) (before after : List ℕ) (m : ChainMac) : Type 0 where

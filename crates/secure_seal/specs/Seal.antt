@@ -1,12 +1,12 @@
 -- Sealing (docs/RULES.md, 8.1, 8.2 and 9): a core that knows no session, and the call on a session.
 -- Assumes nothing.
 use Prim.Native.Nat.{ℕ, _+_, _≤_, _<_}
-use mathlib.Core.Bool.{Bool, true, false, cond}
+use mathlib.Core.Bool.{Bool, true, false, not}
 use mathlib.Core.List.{List, [], _∷_}
 use mathlib.Core.Option.{Option, none, some}
 use lib.Dec.{ltb}
 use lib.ListN.{length, take}
-use Rattle.laws.specs.Answer.{Answer, Answer.given, Answer.refused}
+use Rattle.laws.specs.Answer.{Answer, Answer.given, Answer.refused, refuseIf}
 use Rattle.laws.specs.Bytes.{Bytes, compl}
 use Rattle.laws.specs.Over.{write}
 use Rattle.packet_head.specs.declared.header.Address.{Address}
@@ -87,27 +87,30 @@ sealedFrame k v q =
     let m = macOf (k .«s_mac1») (k .«s_mac2») v (bodyWith q (d .bytes)) in
     record { bytes = bytesOf (partsWith q (d .bytes) (take 4 (m .full))) (totalOf q); full = m .full; steps = d .steps + m .steps }
 
--- ---- the tests: what is answered, the full MAC if the chain moves, the buffer, the steps
+-- ---- the tests of a frame of t bytes, for a buffer of `have`: 10, 12, 18
 
+unfoldable pub frameTest : ℕ → ℕ → ℕ → Answer ℕ
+frameTest n t have =
+    refuseIf (ltb 3 n) 10 (n ∷ [])
+    (refuseIf (ltb 65535 t) 12 (t ∷ 65535 ∷ [])
+    (refuseIf (ltb have t) 18 (t ∷ have ∷ [])
+    (given t)))
+
+-- what is answered, the full MAC if the chain moves, the buffer, the steps
 pub record SealRun : Type 0 where
   pub answer : Answer ℕ
   pub moved : Option (List ℕ)
   pub out : List ℕ
   pub steps : ℕ
 
-abbrev nay : ℕ → List ℕ → List ℕ → SealRun
-nay n vs o = record { answer = refused n vs; moved = none; out = o; steps = 0 }
+-- a frame that passed them is written; a refusal leaves all as it was
+unfoldable pub sealing : SealedFrame → List ℕ → Answer ℕ → SealRun
+sealing f o (given t) = record { answer = given t; moved = some (f .full); out = write o 0 (f .bytes); steps = f .steps }
+sealing f o (refused n vs) = record { answer = refused n vs; moved = none; out = o; steps = 0 }
 
--- 16, 10, 12, 18
+-- 16 comes first
 unfoldable pub sealRun : State → SessionKeys → List ℕ → Asked → List ℕ → SealRun
-sealRun t k v q o =
-    let f = sealedFrame k v q in
-    cond (isSecure t)
-    (cond (ltb 3 (q .sqn)) (nay 10 (q .sqn ∷ []) o)
-    (cond (ltb 65535 (totalOf q)) (nay 12 (totalOf q ∷ 65535 ∷ []) o)
-    (cond (ltb (length o) (totalOf q)) (nay 18 (totalOf q ∷ length o ∷ []) o)
-    (record { answer = given (totalOf q); moved = some (f .full); out = write o 0 (f .bytes); steps = f .steps }))))
-    (nay 16 [] o)
+sealRun t k v q o = sealing (sealedFrame k v q) o (refuseIf (not (isSecure t)) 16 [] (frameTest (q .sqn) (totalOf q) (length o)))
 
 -- ---- on a session
 

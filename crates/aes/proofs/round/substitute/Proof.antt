@@ -1,12 +1,10 @@
 -- `aes::round::substitute` meets its contract: a byte of the half comes from a byte of one of the two.
 -- Assumes nothing.
-use mathlib.Core.Path.{_≡_, ap, _∙_}
+use mathlib.Core.Path.{_∙_}
 use mathlib.Core.List.{[], _∷_}
-use Prim.Native.Nat.{ℕ, _/_, _%_, _^_}
-use lib.ListN.{getD}
 use borrow.Author.Needs.{needs}
 use Rattle.aes_field.specs.Packed.{unpacked}
-use Rattle.aes_field.proofs.Packing.{after, after-is}
+use Rattle.aes_field.proofs.Packing.{entry-at}
 use Rattle.aes.specs.Halves.{forth}
 use Rattle.aes.proofs.round.substitute.Statement.{statement}
 use Rattle.aes.proofs.round.substitute.Tie as tie
@@ -15,8 +13,7 @@ returns : tie.Need-returns
 unfolding unpacked forth
 returns c =
     let a = c .before .before .before .before .before .before .before .before .before .args in
-    let at : (x i : ℕ) → getD (a .t .now) (x / 256 ^ i % 256) 0 ≡ getD (a .t .now) (after x i % 256) 0 =
-    λ x i. ap (λ (z : ℕ). getD (a .t .now) (z % 256) 0) (after-is x i) in
+    let at = entry-at (a .t .now) in
     c .pack .ensures
     ∙ (λ i.
     c .before .before .before .before .before .before .before .before .sub .ensures i

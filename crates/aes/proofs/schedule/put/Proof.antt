@@ -2,7 +2,7 @@
 -- Assumes nothing.
 use mathlib.Core.Path.{_≡_, ap, _∙_}
 use mathlib.Core.List.{_++_}
-use Prim.Native.Nat.{ℕ, zero, suc, _+_, _/_, _%_, _^_, _<_}
+use Prim.Native.Nat.{ℕ, zero, suc, _+_, _<_}
 use native.Mathlib.Nat.{add-zero, add-suc}
 use native.Mathlib.Omega.{arith}
 use lib.Dec.{lit<}
@@ -11,7 +11,7 @@ use lib.Seq.{sets-eq}
 use mir.Syntax.{w64}
 use mir.Val.{Fits}
 use Rattle.aes_field.specs.Packed.{unpacked}
-use Rattle.aes_field.proofs.Packing.{after, after-is}
+use Rattle.aes_field.proofs.Packing.{byte-at}
 use Rattle.aes.proofs.schedule.put.Statement.{statement}
 use Rattle.aes.proofs.schedule.put.Tie as tie
 
@@ -29,24 +29,23 @@ unfolding unpacked
 returns c =
     let a = c .before .before .before .before .before .before .before .before .before .before .before .before .before .before .before .before .args in
     let n : (j : ℕ) → a .at + j ≡ past (a .at) j = past-is (a .at) in
-    let at : (x i : ℕ) → x / 256 ^ i % 256 ≡ after x i % 256 = λ x i. ap (λ (z : ℕ). z % 256) (after-is x i) in
     (λ i.
     set (set (set (set (set (set (set (set (set (set (set (set (set (set (set (set (a .w .now) (a .at) (c .before .before .before .before .before .before .before .before .before .before .before .before .before .before .before .low .ensures i))
-    (n 1 i) ((c .before .before .before .before .before .before .before .before .before .before .before .before .before .before .low2 .ensures ∙ at (a .x) 1) i))
-    (n 2 i) ((c .before .before .before .before .before .before .before .before .before .before .before .before .before .low3 .ensures ∙ at (a .x) 2) i))
-    (n 3 i) ((c .before .before .before .before .before .before .before .before .before .before .before .before .low4 .ensures ∙ at (a .x) 3) i))
-    (n 4 i) ((c .before .before .before .before .before .before .before .before .before .before .before .low5 .ensures ∙ at (a .x) 4) i))
-    (n 5 i) ((c .before .before .before .before .before .before .before .before .before .before .low6 .ensures ∙ at (a .x) 5) i))
-    (n 6 i) ((c .before .before .before .before .before .before .before .before .before .low7 .ensures ∙ at (a .x) 6) i))
-    (n 7 i) ((c .before .before .before .before .before .before .before .before .low8 .ensures ∙ at (a .x) 7) i))
+    (n 1 i) ((c .before .before .before .before .before .before .before .before .before .before .before .before .before .before .low2 .ensures ∙ byte-at (a .x) 1) i))
+    (n 2 i) ((c .before .before .before .before .before .before .before .before .before .before .before .before .before .low3 .ensures ∙ byte-at (a .x) 2) i))
+    (n 3 i) ((c .before .before .before .before .before .before .before .before .before .before .before .before .low4 .ensures ∙ byte-at (a .x) 3) i))
+    (n 4 i) ((c .before .before .before .before .before .before .before .before .before .before .before .low5 .ensures ∙ byte-at (a .x) 4) i))
+    (n 5 i) ((c .before .before .before .before .before .before .before .before .before .before .low6 .ensures ∙ byte-at (a .x) 5) i))
+    (n 6 i) ((c .before .before .before .before .before .before .before .before .before .low7 .ensures ∙ byte-at (a .x) 6) i))
+    (n 7 i) ((c .before .before .before .before .before .before .before .before .low8 .ensures ∙ byte-at (a .x) 7) i))
     (n 8 i) (c .before .before .before .before .before .before .before .low9 .ensures i))
-    (n 9 i) ((c .before .before .before .before .before .before .low10 .ensures ∙ at (a .y) 1) i))
-    (n 10 i) ((c .before .before .before .before .before .low11 .ensures ∙ at (a .y) 2) i))
-    (n 11 i) ((c .before .before .before .before .low12 .ensures ∙ at (a .y) 3) i))
-    (n 12 i) ((c .before .before .before .low13 .ensures ∙ at (a .y) 4) i))
-    (n 13 i) ((c .before .before .low14 .ensures ∙ at (a .y) 5) i))
-    (n 14 i) ((c .before .low15 .ensures ∙ at (a .y) 6) i))
-    (n 15 i) ((c .low16 .ensures ∙ at (a .y) 7) i))
+    (n 9 i) ((c .before .before .before .before .before .before .low10 .ensures ∙ byte-at (a .y) 1) i))
+    (n 10 i) ((c .before .before .before .before .before .low11 .ensures ∙ byte-at (a .y) 2) i))
+    (n 11 i) ((c .before .before .before .before .low12 .ensures ∙ byte-at (a .y) 3) i))
+    (n 12 i) ((c .before .before .before .low13 .ensures ∙ byte-at (a .y) 4) i))
+    (n 13 i) ((c .before .before .low14 .ensures ∙ byte-at (a .y) 5) i))
+    (n 14 i) ((c .before .low15 .ensures ∙ byte-at (a .y) 6) i))
+    (n 15 i) ((c .low16 .ensures ∙ byte-at (a .y) 7) i))
     ∙ sets-eq (unpacked 8 (a .x) ++ unpacked 8 (a .y)) (a .w .now) (a .at) (omega arith)
 
 -- the stores stay within w

@@ -1,13 +1,12 @@
 -- `aes::schedule::turned` meets its contract: a byte of the word comes from the second column of y.
 -- Assumes nothing.
-use mathlib.Core.Path.{_≡_, ap, _∙_}
+use mathlib.Core.Path.{ap, _∙_}
 use mathlib.Core.List.{[], _∷_}
-use Prim.Native.Nat.{ℕ, _/_, _%_, _^_}
-use lib.ListN.{getD}
+use Prim.Native.Nat.{ℕ}
 use borrow.Author.Needs.{needs}
 use Rattle.aes_field.specs.Field.{_⊕_}
 use Rattle.aes_field.specs.Packed.{unpacked}
-use Rattle.aes_field.proofs.Packing.{after, after-is}
+use Rattle.aes_field.proofs.Packing.{entry-at}
 use Rattle.aes.specs.Halves.{turn}
 use Rattle.aes.proofs.schedule.turned.Statement.{statement}
 use Rattle.aes.proofs.schedule.turned.Tie as tie
@@ -16,8 +15,7 @@ returns : tie.Need-returns
 unfolding unpacked turn _⊕_
 returns c =
     let a = c .before .before .before .before .before .args in
-    let at : (x i : ℕ) → getD (a .t .now) (x / 256 ^ i % 256) 0 ≡ getD (a .t .now) (after x i % 256) 0 =
-    λ x i. ap (λ (z : ℕ). getD (a .t .now) (z % 256) 0) (after-is x i) in
+    let at = entry-at (a .t .now) in
     c .pack .ensures
     ∙ (λ i.
     (ap (λ (z : ℕ). z ⊕ a .c) (c .before .before .before .before .sub .ensures ∙ at (a .y) 5)) i
