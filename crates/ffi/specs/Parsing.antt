@@ -5,7 +5,7 @@ use mathlib.Core.Bool.{Bool, true, false}
 use Rattle.laws.specs.Answer.{Answer, Answer.given, Answer.refused}
 use Rattle.packet_head.specs.Block.{BlockRead}
 use Rattle.packet_head.specs.Trailer.{Tail, Tail.checksum, Tail.crc}
-use Rattle.packet_parse.specs.Frame.{Head, Fields, BlockAt, BlockAt.noBlock, BlockAt.blockAt, typeIn, macStart}
+use Rattle.packet_parse.specs.Frame.{Head, Fields, typeIn, blockStart, blockLen, macStart}
 use Rattle.ffi.specs.Answers.{cGiven, cRefused}
 use Rattle.ffi.specs.declared.answer.CAnswer.{CAnswer}
 use Rattle.ffi.specs.declared.parse.CBlock.{CBlock}
@@ -19,15 +19,6 @@ cBlock (refused n vs) = record { answer = cRefused n vs; ty = 0; «data_len» = 
 abbrev pub cHead : Answer Head → CHead
 cHead (given h) = record { answer = cGiven 0; addr = h .addr; len = h .len; sqn = h .ctrl .0; crc = h .ctrl .1; block = h .ctrl .2 }
 cHead (refused n vs) = record { answer = cRefused n vs; addr = 0; len = 0; sqn = 0; crc = false; block = false }
-
--- a block that is not there has place and length 0
-abbrev pub blockStart : BlockAt → ℕ
-blockStart noBlock = 0
-blockStart (blockAt ty at len) = at
-
-abbrev pub blockLen : BlockAt → ℕ
-blockLen noBlock = 0
-blockLen (blockAt ty at len) = len
 
 abbrev pub tailIsCrc : Tail → Bool
 tailIsCrc (checksum n) = false

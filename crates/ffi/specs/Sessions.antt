@@ -18,7 +18,7 @@ use Rattle.secure_session.specs.declared.session.Outcome.{Outcome}
 use Rattle.secure_session.specs.declared.session.SteppedBlock.{SteppedBlock}
 use Rattle.secure_session.specs.declared.session.BlockAnswer.{BlockAnswer}
 use Rattle.secure_session.specs.declared.session.KeysAnswer.{KeysAnswer}
-use Rattle.secure_session.specs.Session.{endNumber, stateNumber}
+use Rattle.secure_session.specs.Session.{endNumber, stateNumber, noKeys}
 use Rattle.secure_session.specs.Handshake.{Step, outcome, blockBeside}
 use Rattle.secure_session.specs.Channel.{keysBeside}
 use Rattle.ffi.specs.Answers.{cGiven, cRefused, cRefusal}
@@ -70,13 +70,10 @@ abbrev pub cSession : Session → CSession
 cSession s =
     record { end = endNumber (s .end); state = stateNumber (s .state); scbk = s .scbk; «rnd_a» = s .«rnd_a»; «rnd_b» = s .«rnd_b»; cuid = s .cuid; keys = cKeys (s .keys); chain = s .chain }
 
-abbrev pub noKeysC : CKeys
-noKeysC = record { «s_enc» = zeros 16; «s_mac1» = zeros 16; «s_mac2» = zeros 16 }
-
 -- everything zero but the byte that says which end it is
 abbrev pub cWiped : CSession → CSession
 cWiped c =
-    record { end = c .end; state = 0; scbk = zeros 16; «rnd_a» = zeros 8; «rnd_b» = zeros 8; cuid = zeros 8; keys = noKeysC; chain = zeros 16 }
+    record { end = c .end; state = 0; scbk = zeros 16; «rnd_a» = zeros 8; «rnd_b» = zeros 8; cuid = zeros 8; keys = cKeys noKeys; chain = zeros 16 }
 
 -- ---- answers
 

@@ -2,8 +2,8 @@
 ghost use mathlib.Core.Path.{_≡_};
 ghost use Rattle.packet_head.specs.Block.{scbOf, scbAnswer};
 ghost use Rattle.packet_head.specs.Trailer.{tail};
-ghost use Rattle.packet_parse.specs.Frame.{typeIn, macStart, headOf, headAnswer, parseOf, parsed, blockPlace, macPlace};
-ghost use Rattle.ffi.specs.Parsing.{cBlock, cHead, cParsed, cNothing, blockStart, blockLen, tailIsCrc, tailValue};
+ghost use Rattle.packet_parse.specs.Frame.{typeIn, blockStart, blockLen, macStart, headOf, headAnswer, parseOf, parsed, blockPlace, macPlace};
+ghost use Rattle.ffi.specs.Parsing.{cBlock, cHead, cParsed, cNothing, tailIsCrc, tailValue};
 use super::answer::CAnswer;
 use super::answer::given;
 use super::answer::refused;

@@ -57,10 +57,18 @@ pub record Fields : Type 0 where
   pub trailer : Tail
   pub len : ℕ
 
--- a block that is not there has type 0, a MAC that is not there place 0
+-- a block that is not there has type, place and length 0, a MAC that is not there place 0
 abbrev pub typeIn : BlockAt → ℕ
 typeIn noBlock = 0
 typeIn (blockAt type start len) = type
+
+abbrev pub blockStart : BlockAt → ℕ
+blockStart noBlock = 0
+blockStart (blockAt type start len) = start
+
+abbrev pub blockLen : BlockAt → ℕ
+blockLen noBlock = 0
+blockLen (blockAt type start len) = len
 
 abbrev pub macStart : MacAt → ℕ
 macStart noMac = 0

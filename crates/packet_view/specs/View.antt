@@ -11,7 +11,7 @@ use Rattle.refusal.specs.Paper.{refusalOf}
 use Rattle.packet_head.specs.Header.{Control, control}
 use Rattle.packet_head.specs.Block.{typeOf}
 use Rattle.packet_head.specs.Trailer.{Tail, Tail.checksum, tail}
-use Rattle.packet_parse.specs.Frame.{Fields, BlockAt, BlockAt.noBlock, BlockAt.blockAt, MacAt, MacAt.noMac, MacAt.macFrom, typeIn, parseOf}
+use Rattle.packet_parse.specs.Frame.{Fields, BlockAt, MacAt, MacAt.noMac, MacAt.macFrom, typeIn, blockStart, blockLen, parseOf}
 use Rattle.packet_view.specs.declared.parts.Outcome.{Outcome}
 use Rattle.packet_view.specs.declared.parts.BlockKind.{BlockKind}
 use Rattle.packet_view.specs.declared.parts.Places.{Places}
@@ -28,8 +28,7 @@ partOf s at len = cond (leb (at + len) (length s)) (take len (drop at s)) []
 
 -- where an accepted frame has its parts; without a block or a MAC, nowhere
 abbrev pub blockIn : BlockAt → Part
-blockIn noBlock = (0, 0)
-blockIn (blockAt ty start len) = (start, len)
+blockIn b = (blockStart b, blockLen b)
 
 abbrev pub dataIn : Fields → Part
 dataIn F = (F .dataStart, F .dataLen)

@@ -14,7 +14,7 @@ use Rattle.refusal.specs.declared.Refusal.the-variants.{WrongState}
 use Rattle.secure_cipher.specs.declared.mac.ChainMac.{ChainMac}
 use Rattle.secure_session.specs.Session.{isSecure, sendFrom, sent}
 use Rattle.secure_session.specs.declared.session.Session.{Session}
-use Rattle.secure_seal.specs.Seal.{Asked, totalOf, sealedFrame, frameTest, sealing, sealRun, SealDone, afterSeal, sealOf, sealTold}
+use Rattle.secure_seal.specs.Seal.{Asked, totalOf, sealedFrame, frameTest, sealing, sealRun, SealDone, afterSeal, settled, sealOf, sealTold}
 use Rattle.secure_seal.specs.Core.{Put, refusedWith}
 use Rattle.secure_seal.specs.declared.frame.Sealed.{Sealed}
 
@@ -27,7 +27,7 @@ seal-not-secure s q o e = rw e
 
 -- what the tests of the frame leave
 abbrev pub picked : Session → Asked → List ℕ → Answer ℕ → SealDone
-picked s q o a = let r = sealing (sealedFrame (s .keys) (sendFrom s) q) o a in done (r .answer) (afterSeal s (r .moved)) (r .out) (r .steps)
+picked s q o a = settled s (sealing (sealedFrame (s .keys) (sendFrom s) q) o a)
 
 pub seal-tested : (s : Session) (q : Asked) (o : List ℕ) → isSecure (s .state) ≡ true → picked s q o (frameTest (q .sqn) (totalOf q) (length o)) ≡ sealOf s q o
 unfolding sealOf sealRun refuseIf

@@ -125,10 +125,12 @@ unfoldable pub afterSeal : Session → Option (List ℕ) → Session
 afterSeal s none = s
 afterSeal s (some m) = sent s m
 
+-- a run, put on a session
+abbrev pub settled : Session → SealRun → SealDone
+settled s r = record { answer = r .answer; session = afterSeal s (r .moved); out = r .out; steps = r .steps }
+
 unfoldable pub sealOf : Session → Asked → List ℕ → SealDone
-sealOf s q o =
-    let r = sealRun (s .state) (s .keys) (sendFrom s) q o in
-    record { answer = r .answer; session = afterSeal s (r .moved); out = r .out; steps = r .steps }
+sealOf s q o = settled s (sealRun (s .state) (s .keys) (sendFrom s) q o)
 
 -- ---- the code's answer, as the paper has it; `o` is the buffer in the end
 

@@ -10,7 +10,7 @@ use Rattle.secure_keys.specs.declared.crypto.SessionKeys.{SessionKeys}
 use Rattle.secure_cipher.specs.Mac.{Mac, macOf}
 use Rattle.secure_cipher.specs.Cbc.{Done, encryptOf, decryptOf}
 use Rattle.secure_session.specs.Session.{isSecure, noKeys, sendFrom, recvFrom, sent, received}
-use Rattle.secure_session.specs.Handshake.{Step, outcome}
+use Rattle.secure_session.specs.Handshake.{Step, wrongState, outcome}
 use Rattle.secure_session.specs.declared.session.Session.{Session}
 use Rattle.secure_session.specs.declared.session.KeysAnswer.{KeysAnswer}
 
@@ -21,7 +21,7 @@ macFrom s v l = macOf (s .keys .«s_mac1») (s .keys .«s_mac2») v l
 unfoldable pub makeMac : Session → List ℕ → Step (List ℕ)
 makeMac s l =
     let m = macFrom s (sendFrom s) l .full in
-    cond (isSecure (s .state)) (record { answer = given m; session = sent s m }) (record { answer = refused 16 []; session = s })
+    cond (isSecure (s .state)) (record { answer = given m; session = sent s m }) (wrongState s)
 
 -- the four bytes of MAC that came with bytes: the chain moves if they are right, else 15
 unfoldable pub verifyOf : Session → List ℕ → List ℕ → Step (Unit {0})
@@ -29,7 +29,7 @@ verifyOf s l wire =
     let m = macFrom s (recvFrom s) l .full in
     cond (isSecure (s .state))
     (cond (eql (take 4 m) wire) (record { answer = given tt; session = received s m }) (record { answer = refused 15 []; session = s }))
-    (record { answer = refused 16 []; session = s })
+    (wrongState s)
 
 -- the derived keys, and the chain value that a MAC sent next starts from
 unfoldable pub keysOf : Session → Answer SessionKeys

@@ -22,7 +22,7 @@ pub record Step (A : Type 0) : Type 0 where
   pub session : Session
 
 -- another state or end: 16, session unchanged
-abbrev wrongState : {A : Type 0} → Session → Step A
+abbrev pub wrongState : {A : Type 0} → Session → Step A
 wrongState s = record { answer = refused 16 []; session = s }
 
 -- a wrong cryptogram or first chain value: 15 and the reset

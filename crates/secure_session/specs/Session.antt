@@ -30,7 +30,7 @@ isAt e t s = eqb (endNumber e) (endNumber (s .end)) && eqb (stateNumber t) (stat
 
 -- whether it is Secure, at either end
 unfoldable pub isSecure : State → Bool
-isSecure t = eqb (stateNumber t) 3
+isSecure t = eqb (stateNumber t) (stateNumber Secure)
 
 -- ---- sessions, made and emptied
 

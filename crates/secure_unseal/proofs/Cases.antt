@@ -19,8 +19,8 @@ use Rattle.secure_cipher.specs.Mac.{Mac, macOf}
 use Rattle.secure_keys.specs.declared.crypto.SessionKeys.{SessionKeys}
 use Rattle.secure_session.specs.Session.{isSecure, recvFrom, received}
 use Rattle.secure_session.specs.declared.session.Session.{Session}
-use Rattle.secure_unseal.specs.Unseal.{Checked, UnsealRun, check, openData, unsealPlain, unsealOpened, unsealHidden, unsealParsed, unsealRun, unsealOf, afterUnseal}
-use Rattle.secure_unseal.specs.Parts.{ran, stopped, settled}
+use Rattle.secure_unseal.specs.Unseal.{Checked, UnsealRun, check, openData, unsealPlain, unsealOpened, unsealHidden, unsealParsed, unsealRun, unsealOf, afterUnseal, settled}
+use Rattle.secure_unseal.specs.Parts.{ran, stopped}
 use Rattle.secure_unseal.specs.declared.frame.Run.{Run}
 
 -- ---- a choice whose test is known

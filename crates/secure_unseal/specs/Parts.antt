@@ -6,8 +6,7 @@ use mathlib.Core.List.{List}
 use mathlib.Core.Option.{none, some}
 use Rattle.laws.specs.Bytes.{zeros}
 use Rattle.refusal.specs.declared.Refusal.{Refusal}
-use Rattle.secure_session.specs.declared.session.Session.{Session}
-use Rattle.secure_unseal.specs.Unseal.{Checked, UnsealRun, UnsealDone, placeAnswer, afterUnseal}
+use Rattle.secure_unseal.specs.Unseal.{Checked, UnsealRun, placeAnswer}
 use Rattle.secure_unseal.specs.declared.frame.PlaceAnswer.{PlaceAnswer}
 use Rattle.secure_unseal.specs.declared.frame.MacCheck.{MacCheck}
 use Rattle.secure_unseal.specs.declared.frame.Run.{Run}
@@ -22,7 +21,3 @@ ran r w = record { answer = placeAnswer (r .answer); moved = cond (r .moved) (so
 -- a refusal, after so many calls
 abbrev pub stopped : Refusal → ℕ → Run
 stopped e n = record { answer = PlaceAnswer.Refused e; moved = false; full = zeros 16; calls = n }
-
--- a run, put on a session
-abbrev pub settled : Session → UnsealRun → UnsealDone
-settled s r = record { answer = r .answer; session = afterUnseal s (r .moved); work = r .work; steps = r .steps }

@@ -102,10 +102,12 @@ unfoldable pub afterUnseal : Session → Option (List ℕ) → Session
 afterUnseal s none = s
 afterUnseal s (some m) = received s m
 
+-- a run, put on a session
+abbrev pub settled : Session → UnsealRun → UnsealDone
+settled s r = record { answer = r .answer; session = afterUnseal s (r .moved); work = r .work; steps = r .steps }
+
 unfoldable pub unsealOf : Session → List ℕ → List ℕ → UnsealDone
-unsealOf s f w =
-    let r = unsealRun (s .state) (s .keys) (recvFrom s) f w in
-    record { answer = r .answer; session = afterUnseal s (r .moved); work = r .work; steps = r .steps }
+unsealOf s f w = settled s (unsealRun (s .state) (s .keys) (recvFrom s) f w)
 
 -- ---- the code's answer, as the paper has it; `w` is the work buffer in the end
 
