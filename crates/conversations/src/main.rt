@@ -90,13 +90,6 @@ fn shake(scbk: [u8; 16], cuid: [u8; 8], rnd_a: [u8; 8], rnd_b: [u8; 8]) -> Ends 
     Ends { controller, reader }
 }
 
-fn sqn(n: u8) -> Sqn {
-    match Sqn::new(n) {
-        SqnAnswer::Good(s) => s,
-        SqnAnswer::Refused(_) => Sqn::ZERO,
-    }
-}
-
 // Opens what is on the line at the other end, and tells whether the payload came as it was sent.
 fn take(to: Session, frame: &[u8], payload: &[u8]) -> Session {
     let mut work = [0u8; 64];
@@ -120,6 +113,11 @@ fn take(to: Session, frame: &[u8], payload: &[u8]) -> Session {
     u.session
 }
 
+fn not_sent(from: Session, to: Session) -> Passed {
+    put(b"refused\n");
+    Passed { from, to }
+}
+
 // What was sealed goes over the line, and its first `open` bytes stand open there.
 fn deliver(s: Sealed, to: Session, payload: &[u8], open: usize, out: &[u8]) -> Passed {
     let sealed = s.answer;
@@ -127,7 +125,7 @@ fn deliver(s: Sealed, to: Session, payload: &[u8], open: usize, out: &[u8]) -> P
     match sealed {
         LengthAnswer::Of(len) => {
             if out.len() < len {
-                return Passed { from, to };
+                return not_sent(from, to);
             }
             put_number(len);
             put(b" bytes, open:");
@@ -138,10 +136,7 @@ fn deliver(s: Sealed, to: Session, payload: &[u8], open: usize, out: &[u8]) -> P
             let peer = take(to, &out[..len], payload);
             Passed { from, to: peer }
         }
-        LengthAnswer::Refused(_) => {
-            put(b"refused\n");
-            Passed { from, to }
-        }
+        LengthAnswer::Refused(_) => not_sent(from, to),
     }
 }
 
@@ -158,17 +153,22 @@ fn pass(
 ) -> Passed {
     let mut out = [0u8; 64];
     let address = Address::from_raw(5);
-    let s = secure_seal::seal(
-        from,
-        address,
-        sqn(n),
-        direction,
-        encrypt,
-        code,
-        payload,
-        &mut out,
-    );
-    deliver(s, to, payload, open, &out)
+    match Sqn::new(n) {
+        SqnAnswer::Good(sqn) => {
+            let s = secure_seal::seal(
+                from,
+                address,
+                sqn,
+                direction,
+                encrypt,
+                code,
+                payload,
+                &mut out,
+            );
+            deliver(s, to, payload, open, &out)
+        }
+        SqnAnswer::Refused(_) => not_sent(from, to),
+    }
 }
 
 // A plain frame from each end, with the same contents in every conversation.

@@ -18,6 +18,7 @@ deliver-spec =
     tie.close
     (tie.spec
     (λ c. search needs)
+    (λ c κs. search needs)
     (λ c. search needs)
     (λ c κs. search needs)
     (λ c. search needs)
@@ -31,7 +32,6 @@ deliver-spec =
     (λ c κs. search needs)
     slice-aggregate-take
     (λ c κs. search needs)
-    (λ c. search needs)
     (λ c. search needs)
     (λ c κs. search needs)
     (λ c. search needs)
