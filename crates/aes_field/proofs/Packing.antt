@@ -114,7 +114,7 @@ xtime-halves a l =
     let q : top a * 27 ≡ a / 128 * 27 = omega arith in
     ap₂ bitXor p q
 
--- a byte under the mask full
+-- a byte under the mask 255
 keep : (y : ℕ) → bitAnd (y % 256) 255 ≡ y % 256
 keep y = let e : y % 256 % 256 ≡ y % 256 = omega arith in and-mask (y % 256) 8 ∙ e
 

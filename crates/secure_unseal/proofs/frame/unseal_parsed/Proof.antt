@@ -18,27 +18,27 @@ use Rattle.secure_unseal.proofs.frame.unseal_parsed.Tie as tie
 told : (test : ℕ → Bool) {b q : BlockPart} {x y : Bool} → b ≡ q → x ≡ test (typeIn (blockPlace q)) → x ≡ y → test (typeIn (blockPlace b)) ≡ y
 told test e r t = ap (λ (p : BlockPart). test (typeIn (blockPlace p))) e ∙ sym r ∙ t
 
+-- where the code asks for the MAC's place, the type has a MAC
+due : (m : tie.After-mac-start) → hasMac (typeIn (fields (m .before .before .before .before .before .before .before .before .args .p) .block)) ≡ true
+due m =
+    let h = m .before .before in
+    told hasMac (h .before .before .block .given .1) (h .has-mac .ensures) (m .before .if1 .taken)
+
 unseal-hidden-requires : tie.Need-unseal-hidden-requires
 unseal-hidden-requires c κs =
     let m = c .before .before .before in
-    let h = m .before .before in
-    let g = h .before .before in
-    let s = g .before .before .before .before in
+    let s = m .before .before .before .before .before .before .before .before in
     let a = s .args in
     let f = fields (a .p) in
-    let t : hasMac (typeIn (f .block)) ≡ true = told hasMac (g .block .given .1) (h .has-mac .ensures) (m .before .if1 .taken) in
-    (omega (arith, m .mac-start .ensures, mac-inside (a .frame .now) f (s .pre) t), data-inside (a .frame .now) f (s .pre))
+    (omega (arith, m .mac-start .ensures, mac-inside (a .frame .now) f (s .pre) (due m)), data-inside (a .frame .now) f (s .pre))
 
 check-requires : tie.Need-check-requires
 check-requires c κs =
     let m = c .before .before in
-    let h = m .before .before in
-    let g = h .before .before in
-    let s = g .before .before .before .before in
+    let s = m .before .before .before .before .before .before .before .before in
     let a = s .args in
     let f = fields (a .p) in
-    let t : hasMac (typeIn (f .block)) ≡ true = told hasMac (g .block .given .1) (h .has-mac .ensures) (m .before .if1 .taken) in
-    omega (arith, m .mac-start .ensures, mac-inside (a .frame .now) f (s .pre) t)
+    omega (arith, m .mac-start .ensures, mac-inside (a .frame .now) f (s .pre) (due m))
 
 returns : tie.Need-returns
 returns c =
@@ -51,31 +51,25 @@ returns-2 c =
     let u = c .before .before in
     let e = u .before .before .before in
     let m = e .before in
-    let h = m .before .before in
-    let g = h .before .before in
-    let s = g .before .before .before .before in
-    let a = s .args in
+    let g = m .before .before .before .before in
+    let a = g .before .before .before .before .args in
     let f = fields (a .p) in
-    let t : hasMac (typeIn (f .block)) ≡ true = told hasMac (g .block .given .1) (h .has-mac .ensures) (m .before .if1 .taken) in
     let y : isEncrypted (typeIn (f .block)) ≡ true = told isEncrypted (g .block .given .1) (e .is-encrypted .ensures) (u .before .before .if2 .taken) in
     u .unseal-hidden .ensures
     ∙ ap (λ (n : ℕ). unsealHidden (check (a .keys) (a .start) (a .frame .now) n) (openData (a .keys) (a .start) (a .frame .now) f) f (a .work .now)) (m .mac-start .ensures)
-    ∙ parsed-hidden (a .keys) (a .start) (a .frame .now) f (a .work .now) t y
+    ∙ parsed-hidden (a .keys) (a .start) (a .frame .now) f (a .work .now) (due m) y
 
 returns-3 : tie.Need-returns-3
 returns-3 c =
     let e = c .before .before .before in
     let m = e .before in
-    let h = m .before .before in
-    let g = h .before .before in
-    let s = g .before .before .before .before in
-    let a = s .args in
+    let g = m .before .before .before .before in
+    let a = g .before .before .before .before .args in
     let f = fields (a .p) in
-    let t : hasMac (typeIn (f .block)) ≡ true = told hasMac (g .block .given .1) (h .has-mac .ensures) (m .before .if1 .taken) in
     let y : isEncrypted (typeIn (f .block)) ≡ false = told isEncrypted (g .block .given .1) (e .is-encrypted .ensures) (c .before .before .if2 .left) in
     c .unseal-plain .ensures (a .work .now)
     ∙ ap (λ (x : Checked). unsealPlain x f (a .work .now)) (c .before .check .ensures ∙ ap (check (a .keys) (a .start) (a .frame .now)) (m .mac-start .ensures))
-    ∙ parsed-plain (a .keys) (a .start) (a .frame .now) f (a .work .now) t y
+    ∙ parsed-plain (a .keys) (a .start) (a .frame .now) f (a .work .now) (due m) y
 
 returns-4 : tie.Need-returns-4
 returns-4 c =
