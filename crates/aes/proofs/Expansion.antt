@@ -9,7 +9,7 @@ use lib.ListN.{length, take, drop, getD}
 use lib.Seq.{drop-append-add, take-all, take-at, length-take-le, paste, length-paste, take-paste}
 use Rattle.laws.specs.Table.{blockOf}
 use Rattle.laws.specs.Bytes.{xorl}
-use Rattle.laws.proofs.Listed.{length-blockOf, whole}
+use Rattle.laws.proofs.Listed.{length-blockOf, block-listed}
 use Rattle.aes_field.specs.Field.{_⊕_, xtime}
 use Rattle.aes.specs.KeyExpansion.{word, temp, power, words, keyExpansion}
 use Rattle.aes.specs.RoundKey.{keyByte, nextKey}
@@ -67,7 +67,7 @@ module _ (t : List ℕ) where
       let zero-more : 4 * r + 0 ≡ 4 * r = omega arith in
       let four-more : 4 * (r + 1) ≡ 4 * r + 4 = omega arith in
       let pred : r + 1 - 1 ≡ r = omega arith in
-      let w : x ≡ blockOf (λ i. getD x i 0) = sym (whole x lx) in
+      let w : x ≡ blockOf (λ i. getD x i 0) = sym (block-listed x lx) in
       ap (λ (n : ℕ). words t n k) four-more
       ∙ step k p _ r 3 (omega arith) l (step k p _ r 2 (omega arith) l (step k p _ r 1 (omega arith) l (step k p x r 0 (omega arith) l (ap (λ (n : ℕ). words t n k) zero-more ∙ e))))
       ∙ ap (λ (y : List ℕ). p ++ ext r 3 (ext r 2 (ext r 1 (ext r 0 y)))) w

@@ -11,7 +11,7 @@ use lib.Seq.{ext-getD}
 use Rattle.laws.specs.Table.{blockOf}
 use Rattle.laws.specs.Bytes.{Bytes}
 use Rattle.laws.specs.Blocks.{Block}
-use Rattle.laws.proofs.Listed.{length-blockOf, getD-blockOf, whole}
+use Rattle.laws.proofs.Listed.{length-blockOf, getD-blockOf, block-listed}
 use Rattle.aes_field.specs.Field.{_⊕_}
 use Rattle.aes_field.specs.Sbox.{SBOX, INVSBOX}
 use Rattle.aes_field.proofs.Sums.{⊕-cancel, ⊕-lt}
@@ -73,12 +73,12 @@ add-block s w r b c = is-block _ (λ i. ⊕-lt (b .bytes i) (c (16 * r + i)))
 pub sub-back : (s : List ℕ) → Block s → subBytes INVSBOX (subBytes SBOX s) ≡ s
 unfolding subBytes
 sub-back s b =
-    same-block _ (λ i. getD s i 0) (λ i h. ap (λ (x : ℕ). getD INVSBOX x 0) (getD-blockOf _ i h) ∙ SBOX-undone (getD s i 0) (b .bytes i)) ∙ whole s (b .size)
+    same-block _ (λ i. getD s i 0) (λ i h. ap (λ (x : ℕ). getD INVSBOX x 0) (getD-blockOf _ i h) ∙ SBOX-undone (getD s i 0) (b .bytes i)) ∙ block-listed s (b .size)
 
 pub unsub-back : (s : List ℕ) → Block s → subBytes SBOX (subBytes INVSBOX s) ≡ s
 unfolding subBytes
 unsub-back s b =
-    same-block _ (λ i. getD s i 0) (λ i h. ap (λ (x : ℕ). getD SBOX x 0) (getD-blockOf _ i h) ∙ INVSBOX-undone (getD s i 0) (b .bytes i)) ∙ whole s (b .size)
+    same-block _ (λ i. getD s i 0) (λ i h. ap (λ (x : ℕ). getD SBOX x 0) (getD-blockOf _ i h) ∙ INVSBOX-undone (getD s i 0) (b .bytes i)) ∙ block-listed s (b .size)
 
 shift-bytes : (s : List ℕ) → invShiftRows (shiftRows s) ≡ blockOf (λ i. getD s i 0)
 unfolding blockOf shiftRows invShiftRows
@@ -89,15 +89,15 @@ unfolding blockOf shiftRows invShiftRows
 unshift-bytes s = refl
 
 pub shift-back : (s : List ℕ) → Block s → invShiftRows (shiftRows s) ≡ s
-shift-back s b = shift-bytes s ∙ whole s (b .size)
+shift-back s b = shift-bytes s ∙ block-listed s (b .size)
 
 pub unshift-back : (s : List ℕ) → Block s → shiftRows (invShiftRows s) ≡ s
-unshift-back s b = unshift-bytes s ∙ whole s (b .size)
+unshift-back s b = unshift-bytes s ∙ block-listed s (b .size)
 
 pub add-back : (s w : List ℕ) (r : ℕ) → Block s → addRoundKey (addRoundKey s w r) w r ≡ s
 unfolding addRoundKey
 add-back s w r b =
-    same-block _ (λ i. getD s i 0) (λ i h. ap (λ (x : ℕ). x ⊕ getD w (16 * r + i) 0) (getD-blockOf _ i h) ∙ ⊕-cancel (getD s i 0) (getD w (16 * r + i) 0)) ∙ whole s (b .size)
+    same-block _ (λ i. getD s i 0) (λ i h. ap (λ (x : ℕ). x ⊕ getD w (16 * r + i) 0) (getD-blockOf _ i h) ∙ ⊕-cancel (getD s i 0) (getD w (16 * r + i) 0)) ∙ block-listed s (b .size)
 
 cons : {x y : ℕ} {xs ys : List ℕ} → x ≡ y → xs ≡ ys → x ∷ xs ≡ y ∷ ys
 cons p q = λ i. p i ∷ q i
@@ -134,10 +134,10 @@ pub mix-back : (s : List ℕ) → Block s → invMixColumns (mixColumns s) ≡ s
 unfolding mixColumns invMixColumns
 mix-back s b =
     columns-back unmixByte mixByte s (λ p q r t. unmix-mix (getD s p 0) (getD s q 0) (getD s r 0) (getD s t 0) (b .bytes p) (b .bytes q) (b .bytes r) (b .bytes t))
-    ∙ whole s (b .size)
+    ∙ block-listed s (b .size)
 
 pub unmix-back : (s : List ℕ) → Block s → mixColumns (invMixColumns s) ≡ s
 unfolding mixColumns invMixColumns
 unmix-back s b =
     columns-back mixByte unmixByte s (λ p q r t. mix-unmix (getD s p 0) (getD s q 0) (getD s r 0) (getD s t 0) (b .bytes p) (b .bytes q) (b .bytes r) (b .bytes t))
-    ∙ whole s (b .size)
+    ∙ block-listed s (b .size)

@@ -8,15 +8,15 @@ use lib.ListN.{getD}
 use Rattle.aes_field.specs.Field.{_⊕_}
 
 -- SUBBYTES and SHIFTROWS, with the table t
-unfoldable pub forth : List ℕ → List ℕ → List ℕ → List ℕ
-forth t l m =
+unfoldable pub subShift : List ℕ → List ℕ → List ℕ → List ℕ
+subShift t l m =
     let p : ℕ → ℕ = λ i. getD t (getD l i 0) 0 in
     let q : ℕ → ℕ = λ i. getD t (getD m i 0) 0 in
     p 0 ∷ p 5 ∷ q 2 ∷ q 7 ∷ p 4 ∷ q 1 ∷ q 6 ∷ p 3 ∷ []
 
 -- INVSHIFTROWS and INVSUBBYTES, with the inverse table t
-unfoldable pub back : List ℕ → List ℕ → List ℕ → List ℕ
-back t l m =
+unfoldable pub unshiftSub : List ℕ → List ℕ → List ℕ → List ℕ
+unshiftSub t l m =
     let p : ℕ → ℕ = λ i. getD t (getD l i 0) 0 in
     let q : ℕ → ℕ = λ i. getD t (getD m i 0) 0 in
     p 0 ∷ q 5 ∷ q 2 ∷ p 7 ∷ p 4 ∷ p 1 ∷ q 6 ∷ q 3 ∷ []
@@ -28,8 +28,8 @@ part l at =
     g 0 ∷ g 1 ∷ g 2 ∷ g 3 ∷ g 4 ∷ g 5 ∷ g 6 ∷ g 7 ∷ []
 
 -- what is added to the first word of a round key to make the next one's: m is its second half, c the round's constant
-unfoldable pub turn : List ℕ → ℕ → List ℕ → List ℕ
-turn t c m =
+unfoldable pub keyTurn : List ℕ → ℕ → List ℕ → List ℕ
+keyTurn t c m =
     let q : ℕ → ℕ = λ i. getD t (getD m i 0) 0 in
     q 5 ⊕ c ∷ q 6 ∷ q 7 ∷ q 4 ∷ 0 ∷ 0 ∷ 0 ∷ 0 ∷ []
 

@@ -8,7 +8,7 @@ ghost use lib.ListN.{getD};
 ghost use Rattle.laws.specs.Bytes.{xorl};
 ghost use Rattle.aes_field.specs.Field.{_⊕_, _•_};
 ghost use Rattle.aes_field.specs.Packed.{unpacked, columns};
-ghost use Rattle.aes.specs.Halves.{forth, back, part};
+ghost use Rattle.aes.specs.Halves.{subShift, unshiftSub, part};
 
 // The byte that a table puts in the place of the lowest byte of x.
 pub(crate) fn sub(t: &[u8; 256], x: u64) -> u8
@@ -19,7 +19,7 @@ pub(crate) fn sub(t: &[u8; 256], x: u64) -> u8
 
 // SubBytes and ShiftRows.
 fn substitute(t: &[u8; 256], x: u64, y: u64) -> u64
-    ensures { λ r. ⌜ unpacked 8 r ≡ forth (now (t .entry)) (unpacked 8 x) (unpacked 8 y) ⌝ }
+    ensures { λ r. ⌜ unpacked 8 r ≡ subShift (now (t .entry)) (unpacked 8 x) (unpacked 8 y) ⌝ }
 {
     field::pack(
         sub(t, x),
@@ -35,7 +35,7 @@ fn substitute(t: &[u8; 256], x: u64, y: u64) -> u64
 
 // InvShiftRows and InvSubBytes, with the inverse table.
 fn unsubstitute(t: &[u8; 256], x: u64, y: u64) -> u64
-    ensures { λ r. ⌜ unpacked 8 r ≡ back (now (t .entry)) (unpacked 8 x) (unpacked 8 y) ⌝ }
+    ensures { λ r. ⌜ unpacked 8 r ≡ unshiftSub (now (t .entry)) (unpacked 8 x) (unpacked 8 y) ⌝ }
 {
     field::pack(
         sub(t, x),
@@ -85,7 +85,7 @@ pub(crate) fn second(s: [u8; 16], w: &[u8; 176], at: usize) -> u64
 // A round of Cipher, with the half of its round key from `at` on.
 pub(crate) fn round(t: &[u8; 256], w: &[u8; 176], at: usize, x: u64, y: u64) -> u64
     requires { ⌜ at ≤ 168 ⌝ }
-    ensures { λ r. ⌜ unpacked 8 r ≡ xorl (columns (λ a b c d. 2 • a ⊕ 3 • b ⊕ c ⊕ d) (forth (now (t .entry)) (unpacked 8 x) (unpacked 8 y))) (part (now (w .entry)) at) ⌝ }
+    ensures { λ r. ⌜ unpacked 8 r ≡ xorl (columns (λ a b c d. 2 • a ⊕ 3 • b ⊕ c ⊕ d) (subShift (now (t .entry)) (unpacked 8 x) (unpacked 8 y))) (part (now (w .entry)) at) ⌝ }
 {
     field::mix(substitute(t, x, y)) ^ key(w, at)
 }
@@ -93,7 +93,7 @@ pub(crate) fn round(t: &[u8; 256], w: &[u8; 176], at: usize, x: u64, y: u64) -> 
 // The last round, which mixes no columns.
 pub(crate) fn last(t: &[u8; 256], w: &[u8; 176], at: usize, x: u64, y: u64) -> u64
     requires { ⌜ at ≤ 168 ⌝ }
-    ensures { λ r. ⌜ unpacked 8 r ≡ xorl (forth (now (t .entry)) (unpacked 8 x) (unpacked 8 y)) (part (now (w .entry)) at) ⌝ }
+    ensures { λ r. ⌜ unpacked 8 r ≡ xorl (subShift (now (t .entry)) (unpacked 8 x) (unpacked 8 y)) (part (now (w .entry)) at) ⌝ }
 {
     substitute(t, x, y) ^ key(w, at)
 }
@@ -101,7 +101,7 @@ pub(crate) fn last(t: &[u8; 256], w: &[u8; 176], at: usize, x: u64, y: u64) -> u
 // A round of InvCipher.
 pub(crate) fn unround(t: &[u8; 256], w: &[u8; 176], at: usize, x: u64, y: u64) -> u64
     requires { ⌜ at ≤ 168 ⌝ }
-    ensures { λ r. ⌜ unpacked 8 r ≡ columns (λ a b c d. 14 • a ⊕ 11 • b ⊕ 13 • c ⊕ 9 • d) (xorl (back (now (t .entry)) (unpacked 8 x) (unpacked 8 y)) (part (now (w .entry)) at)) ⌝ }
+    ensures { λ r. ⌜ unpacked 8 r ≡ columns (λ a b c d. 14 • a ⊕ 11 • b ⊕ 13 • c ⊕ 9 • d) (xorl (unshiftSub (now (t .entry)) (unpacked 8 x) (unpacked 8 y)) (part (now (w .entry)) at)) ⌝ }
 {
     field::unmix(unsubstitute(t, x, y) ^ key(w, at))
 }
@@ -109,7 +109,7 @@ pub(crate) fn unround(t: &[u8; 256], w: &[u8; 176], at: usize, x: u64, y: u64) -
 // Its last round.
 pub(crate) fn unlast(t: &[u8; 256], w: &[u8; 176], at: usize, x: u64, y: u64) -> u64
     requires { ⌜ at ≤ 168 ⌝ }
-    ensures { λ r. ⌜ unpacked 8 r ≡ xorl (back (now (t .entry)) (unpacked 8 x) (unpacked 8 y)) (part (now (w .entry)) at) ⌝ }
+    ensures { λ r. ⌜ unpacked 8 r ≡ xorl (unshiftSub (now (t .entry)) (unpacked 8 x) (unpacked 8 y)) (part (now (w .entry)) at) ⌝ }
 {
     unsubstitute(t, x, y) ^ key(w, at)
 }

@@ -9,11 +9,11 @@ ghost use lib.ListN.{length};
 ghost use lib.Seq.{paste};
 ghost use Rattle.aes_field.specs.Packed.{unpacked};
 ghost use Rattle.aes.specs.KeyExpansion.{keyExpansion};
-ghost use Rattle.aes.specs.Halves.{turn, carry};
+ghost use Rattle.aes.specs.Halves.{keyTurn, carry};
 
 // SubWord of RotWord of the last column of y, and c, the round's constant, at its first byte.
 fn turned(t: &[u8; 256], y: u64, c: u8) -> u64
-    ensures { λ r. ⌜ unpacked 8 r ≡ turn (now (t .entry)) c (unpacked 8 y) ⌝ }
+    ensures { λ r. ⌜ unpacked 8 r ≡ keyTurn (now (t .entry)) c (unpacked 8 y) ⌝ }
 {
     field::pack(
         round::sub(t, y >> 40) ^ c,

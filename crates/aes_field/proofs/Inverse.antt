@@ -7,7 +7,7 @@ use Prim.Native.Nat.{ℕ, zero, suc, _<_}
 use native.Mathlib.Nat.{not-suc-le-zero}
 use lib.Dec.{eqb, eqb→eq, T}
 use Rattle.laws.specs.Table.{from}
-use Rattle.laws.proofs.Entries.{at, every}
+use Rattle.laws.proofs.Entries.{every-at, every}
 use Rattle.aes_field.specs.Field.{_⊕_, xtime, bitsTimes, _•_, squares, inverse}
 
 abbrev numbers : List ℕ
@@ -23,4 +23,4 @@ all-right = tt
 
 pub times-inverse : (a : ℕ) → 0 < a → a < 256 → a • inverse a ≡ 1
 times-inverse zero h l = absurd (not-suc-le-zero h)
-times-inverse (suc a) h l = eqb→eq (suc a • inverse (suc a)) 1 (at right numbers all-right (suc a) l)
+times-inverse (suc a) h l = eqb→eq (suc a • inverse (suc a)) 1 (every-at right numbers all-right (suc a) l)

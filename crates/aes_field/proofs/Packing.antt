@@ -129,8 +129,8 @@ up2 : (a b e f : ℕ) → a < 256 → b < 256 → e < 256 → f < 256
 unfolding packed
 up2 a b e f p q r s = omega arith
 
-full : 255 < 256
-full = lit< tt
+ff-byte : 255 < 256
+ff-byte = lit< tt
 
 pub empty : 0 < 256
 empty = lit< tt
@@ -139,20 +139,20 @@ pub byte : (y : ℕ) → y % 256 < 256
 byte y = mod-lt y (lit< tt)
 
 -- x without its i lowest bytes
-abbrev pub after : ℕ → ℕ → ℕ
-after x zero = x
-after x (suc i) = after x i / 256
+abbrev pub dropBytes : ℕ → ℕ → ℕ
+dropBytes x zero = x
+dropBytes x (suc i) = dropBytes x i / 256
 
 -- the same by one shift
-pub after-is : (x i : ℕ) → x / 256 ^ i ≡ after x i
-after-is x zero = div-one x
-after-is x (suc i) = ap (λ (n : ℕ). x / n) (pow-suc 256 i) ∙ sym (div-div-eq-div-mul x (256 ^ i) 256) ∙ ap (λ (y : ℕ). y / 256) (after-is x i)
+pub drop-bytes-is : (x i : ℕ) → x / 256 ^ i ≡ dropBytes x i
+drop-bytes-is x zero = div-one x
+drop-bytes-is x (suc i) = ap (λ (n : ℕ). x / n) (pow-suc 256 i) ∙ sym (div-div-eq-div-mul x (256 ^ i) 256) ∙ ap (λ (y : ℕ). y / 256) (drop-bytes-is x i)
 
 -- a byte, and what a table has for it
-pub byte-at : (x i : ℕ) → x / 256 ^ i % 256 ≡ after x i % 256
-byte-at x i = ap (λ (z : ℕ). z % 256) (after-is x i)
+pub byte-at : (x i : ℕ) → x / 256 ^ i % 256 ≡ dropBytes x i % 256
+byte-at x i = ap (λ (z : ℕ). z % 256) (drop-bytes-is x i)
 
-pub entry-at : (t : List ℕ) (x i : ℕ) → getD t (x / 256 ^ i % 256) 0 ≡ getD t (after x i % 256) 0
+pub entry-at : (t : List ℕ) (x i : ℕ) → getD t (x / 256 ^ i % 256) 0 ≡ getD t (dropBytes x i % 256) 0
 entry-at t x i = ap (λ (z : ℕ). getD t z 0) (byte-at x i)
 
 -- the bytes of a number under a mask
@@ -162,7 +162,7 @@ under y m h e b = ap (λ (z : ℕ). bitAnd z (packed m)) (sym (packed-unpacked 8
 
 module _ (x : ℕ) (h : x < 2 ^ 64) where
   abbrev g : ℕ → ℕ
-  g i = after x i
+  g i = dropBytes x i
 
   -- under a mask that is the same for each byte
   masked : (k m : ℕ) → k < 256 → packed (replicate 8 k) ≡ m → bitAnd x m ≡ packed (map (λ a. bitAnd a k) (unpacked 8 x))
@@ -216,10 +216,10 @@ module _ (x : ℕ) (h : x < 2 ^ 64) where
   unfolding packed unpacked columns
   turn-one =
       let lower : bitAnd (x / 256) 0x00ffffff00ffffff ≡ packed (eight (g 1 % 256) (g 2 % 256) (g 3 % 256) 0 (g 5 % 256) (g 6 % 256) (g 7 % 256) 0) =
-      under (x / 256) (eight 255 255 255 0 255 255 255 0) (omega arith) refl (eight-bytes full full full empty full full full empty) ∙ simp (keep, and-zero-r) in
+      under (x / 256) (eight 255 255 255 0 255 255 255 0) (omega arith) refl (eight-bytes ff-byte ff-byte ff-byte empty ff-byte ff-byte ff-byte empty) ∙ simp (keep, and-zero-r) in
       let upper : bitAnd x 0x000000ff000000ff * 2 ^ 24 % 2 ^ 64 ≡ packed (eight 0 0 0 (g 0 % 256) 0 0 0 (g 4 % 256)) =
       ap (λ (y : ℕ). y * 2 ^ 24 % 2 ^ 64)
-      (under x (eight 255 0 0 0 255 0 0 0) h refl (eight-bytes full empty empty empty full empty empty empty) ∙ simp (keep, and-zero-r))
+      (under x (eight 255 0 0 0 255 0 0 0) h refl (eight-bytes ff-byte empty empty empty ff-byte empty empty empty) ∙ simp (keep, and-zero-r))
       ∙ up3 (g 0 % 256) (g 4 % 256) (byte (g 0)) (byte (g 4)) in
       ap₂ bitXor lower upper
       ∙ packed-xor (eight (g 1 % 256) (g 2 % 256) (g 3 % 256) 0 (g 5 % 256) (g 6 % 256) (g 7 % 256) 0) (eight 0 0 0 (g 0 % 256) 0 0 0 (g 4 % 256)) refl
@@ -235,10 +235,10 @@ module _ (x : ℕ) (h : x < 2 ^ 64) where
       let two : x / 65536 ≡ x / 256 / 256 = omega arith in
       let lower : bitAnd (x / 65536) 0x0000ffff0000ffff ≡ packed (eight (g 2 % 256) (g 3 % 256) 0 0 (g 6 % 256) (g 7 % 256) 0 0) =
       ap (λ (y : ℕ). bitAnd y 0x0000ffff0000ffff) two
-      ∙ under (x / 256 / 256) (eight 255 255 0 0 255 255 0 0) (omega arith) refl (eight-bytes full full empty empty full full empty empty) ∙ simp (keep, and-zero-r) in
+      ∙ under (x / 256 / 256) (eight 255 255 0 0 255 255 0 0) (omega arith) refl (eight-bytes ff-byte ff-byte empty empty ff-byte ff-byte empty empty) ∙ simp (keep, and-zero-r) in
       let upper : bitAnd x 0x0000ffff0000ffff * 2 ^ 16 % 2 ^ 64 ≡ packed (eight 0 0 (g 0 % 256) (g 1 % 256) 0 0 (g 4 % 256) (g 5 % 256)) =
       ap (λ (y : ℕ). y * 2 ^ 16 % 2 ^ 64)
-      (under x (eight 255 255 0 0 255 255 0 0) h refl (eight-bytes full full empty empty full full empty empty) ∙ simp (keep, and-zero-r))
+      (under x (eight 255 255 0 0 255 255 0 0) h refl (eight-bytes ff-byte ff-byte empty empty ff-byte ff-byte empty empty) ∙ simp (keep, and-zero-r))
       ∙ up2 (g 0 % 256) (g 1 % 256) (g 4 % 256) (g 5 % 256) (byte (g 0)) (byte (g 1)) (byte (g 4)) (byte (g 5)) in
       ap₂ bitXor lower upper
       ∙ packed-xor (eight (g 2 % 256) (g 3 % 256) 0 0 (g 6 % 256) (g 7 % 256) 0 0) (eight 0 0 (g 0 % 256) (g 1 % 256) 0 0 (g 4 % 256) (g 5 % 256)) refl

@@ -12,7 +12,7 @@ use lib.Seq.{ext-getD}
 use mir.Facts.{and-yes}
 use Rattle.laws.specs.Table.{table}
 use Rattle.laws.proofs.Listed.{length-from, getD-from}
-use Rattle.laws.proofs.Entries.{at, every}
+use Rattle.laws.proofs.Entries.{every-at, every}
 use Rattle.aes_field.specs.Field.{_⊕_, xtime, bitsTimes, _•_, squares, inverse}
 use Rattle.aes_field.specs.Sbox.{rotl, affine, sbox, invAffine, invSbox, SBOX, INVSBOX}
 
@@ -79,7 +79,7 @@ look f k h = getD-from f 0 256 k h ∙ ap f (zero-add k)
 
 tabled : (f : ℕ → ℕ) (l : List ℕ) → length l ≡ 256 → T (every (follows f) 0 l) → l ≡ table f
 tabled f l e t =
-    ext-getD 0 l (table f) (e ∙ sym (length-table f)) (λ k lt. eqb→eq (getD l k 0) (f k) (at (follows f) l t k lt) ∙ sym (look f k (rw (← e) lt)))
+    ext-getD 0 l (table f) (e ∙ sym (length-table f)) (λ k lt. eqb→eq (getD l k 0) (f k) (every-at (follows f) l t k lt) ∙ sym (look f k (rw (← e) lt)))
 
 pub forward-table : forward ≡ SBOX
 unfolding SBOX
@@ -113,7 +113,7 @@ backward-undone = tt
 entry : (l m : List ℕ) → T (every (undoes m) 0 l) → (k : ℕ) → k < length l → (getD l k 0 < 256) × (getD m (getD l k 0) 0 ≡ k)
 entry l m t k h =
     let x = getD l k 0 in
-    let hold = and-yes (ltb x 256) (eqb (getD m x 0) k) (at (undoes m) l t k h) in
+    let hold = and-yes (ltb x 256) (eqb (getD m x 0) k) (every-at (undoes m) l t k h) in
     (ltb→lt x 256 (hold .0), eqb→eq (getD m x 0) k (hold .1))
 
 module _ (k : ℕ) (h : k < 256) where

@@ -12,12 +12,13 @@ use Rattle.laws.proofs.Overwrite.{take-write}
 use Rattle.packet_head.specs.Block.{hasMac, scsOf}
 use Rattle.packet_head.specs.Trailer.{trailerLen, macLen}
 use Rattle.packet_parse.specs.Frame.{parseOf}
-use Rattle.packet_build.specs.Build.{Parts, totalN, testOf, bytesOf, buildOf}
+use Rattle.packet_build.specs.Build.{Parts, totalN, testOf, frameBytes, buildOf}
 use Rattle.packet_build.proofs.Sizes.{passes}
 use Rattle.packet_build.proofs.Frames.{build-given}
-use Rattle.packet.proofs.Built.{placesOf}
+use Rattle.packet_view.specs.View.{payloadOf}
+use Rattle.packet.proofs.Built.{builtFields}
 use Rattle.packet.proofs.ReadBack.{built-reads-back}
-use Rattle.channel.specs.Carried.{Wire, wireParts, onLine, dataIn, carried, WireFits}
+use Rattle.channel.specs.Carried.{Wire, wireParts, onLine, carried, WireFits}
 
 tail-most : (t : Bool) → trailerLen t ≤ 2
 tail-most true = omega arith
@@ -42,17 +43,17 @@ module _ (ty : ℕ) (w : Wire) (x : List ℕ) (known : scsOf ty ≡ given ty) (b
         small = h .block;
       })
 
-  built : buildOf parts (length (w .out)) ≡ given (bytesOf parts total)
+  built : buildOf parts (length (w .out)) ≡ given (frameBytes parts total)
   built = build-given parts (length (w .out)) total passed
 
-  sent : take (length (bytesOf parts total)) (write (w .out) 0 (bytesOf parts total)) ≡ bytesOf parts total
-  sent = take-write (w .out) (length (bytesOf parts total)) (bytesOf parts total) refl
+  sent : take (length (frameBytes parts total)) (write (w .out) 0 (frameBytes parts total)) ≡ frameBytes parts total
+  sent = take-write (w .out) (length (frameBytes parts total)) (frameBytes parts total) refl
 
-  reads : parseOf (bytesOf parts total) ≡ given (placesOf parts (length (bytesOf parts total)))
-  reads = ap parseOf (sym (append-nil (bytesOf parts total))) ∙ built-reads-back parts (length (w .out)) (bytesOf parts total) [] known built .0
+  reads : parseOf (frameBytes parts total) ≡ given (builtFields parts (length (frameBytes parts total)))
+  reads = ap parseOf (sym (append-nil (frameBytes parts total))) ∙ built-reads-back parts (length (w .out)) (frameBytes parts total) [] known built .0
 
   pub carried-eq : carried ty w x ≡ x
-  unfolding carried onLine dataIn
+  unfolding carried onLine payloadOf
   carried-eq =
       rw (built, sent, reads)
-      (ap (λ (p : Parts). p .«data») (built-reads-back parts (length (w .out)) (bytesOf parts total) [] known built .1))
+      (ap (λ (p : Parts). p .«data») (built-reads-back parts (length (w .out)) (frameBytes parts total) [] known built .1))

@@ -8,7 +8,7 @@ use lib.ListN.{length}
 use Rattle.secure_cipher.proofs.PadLaws.{length-padData}
 use Rattle.secure_session.specs.declared.session.End.{End}
 use Rattle.secure_session.specs.declared.session.End.the-variants.{Controller, Reader}
-use Rattle.secure_seal.specs.Seal.{typeFor, dataLen, totalOf}
+use Rattle.secure_seal.specs.Seal.{typeFor, dataLenFor, totalOf}
 use Rattle.secure_seal.proofs.SealLaws.{stepsFor, headWith}
 use Rattle.channel.specs.Talk.{Send, directionOf, askedIn, Event}
 use Rattle.channel.specs.Demand.{Conversation, handOf, eventsOf, Proper, Agree, Each, Arrived, Alike, AllAlike, Demand3}
@@ -34,14 +34,14 @@ module _ (t : Conversation) (p : Proper t) where
 
 -- ---- two
 
-data-same : (e : Bool) (x y : List ℕ) → length x ≡ length y → dataLen e x ≡ dataLen e y
-unfolding dataLen
+data-same : (e : Bool) (x y : List ℕ) → length x ≡ length y → dataLenFor e x ≡ dataLenFor e y
+unfolding dataLenFor
 data-same false x y h = h
 data-same true x y h = length-padData x ∙ ap (λ (n : ℕ). (n / 16 + 1) * 16) h ∙ sym (length-padData y)
 
 module _ (s t : Send) (h : Agree s t) where
   total-same : totalOf (askedIn s) ≡ totalOf (askedIn t)
-  total-same = ap (λ (n : ℕ). 14 + n) (data-same (s .encrypt) (s .payload) (t .payload) (h .size) ∙ ap (λ (e : Bool). dataLen e (t .payload)) (h .encrypt))
+  total-same = ap (λ (n : ℕ). 14 + n) (data-same (s .encrypt) (s .payload) (t .payload) (h .size) ∙ ap (λ (e : Bool). dataLenFor e (t .payload)) (h .encrypt))
 
   type-same : typeFor (directionOf (s .who)) (s .encrypt) ≡ typeFor (directionOf (t .who)) (t .encrypt)
   type-same = ap₂ (λ (w : End) (e : Bool). typeFor (directionOf w) e) (h .who) (h .encrypt)

@@ -6,20 +6,20 @@ use Prim.Native.Nat.{ℕ, _+_, _≤_}
 use native.Mathlib.Omega.{arith}
 use lib.ListN.{length}
 use Rattle.secure_cipher.proofs.PadLaws.{length-padData}
-use Rattle.secure_seal.specs.Seal.{dataLen}
+use Rattle.secure_seal.specs.Seal.{dataLenFor}
 
-pub plain-within : (x : List ℕ) → length x ≤ 65521 → 14 + dataLen false x ≤ 65535
-unfolding dataLen
+pub plain-within : (x : List ℕ) → length x ≤ 65521 → 14 + dataLenFor false x ≤ 65535
+unfolding dataLenFor
 plain-within x h = omega arith
 
-pub plain-most : (x : List ℕ) → 14 + dataLen false x ≤ 65535 → length x ≤ 65521
-unfolding dataLen
+pub plain-most : (x : List ℕ) → 14 + dataLenFor false x ≤ 65535 → length x ≤ 65521
+unfolding dataLenFor
 plain-most x h = omega arith
 
-pub encrypted-within : (x : List ℕ) → length x ≤ 65519 → 14 + dataLen true x ≤ 65535
-unfolding dataLen
+pub encrypted-within : (x : List ℕ) → length x ≤ 65519 → 14 + dataLenFor true x ≤ 65535
+unfolding dataLenFor
 encrypted-within x h = omega (arith, length-padData x)
 
-pub encrypted-most : (x : List ℕ) → 14 + dataLen true x ≤ 65535 → length x ≤ 65519
-unfolding dataLen
+pub encrypted-most : (x : List ℕ) → 14 + dataLenFor true x ≤ 65535 → length x ≤ 65519
+unfolding dataLenFor
 encrypted-most x h = omega (arith, length-padData x)

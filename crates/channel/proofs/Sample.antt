@@ -16,11 +16,11 @@ use Rattle.secure_session.specs.declared.session.End.{End}
 use Rattle.secure_session.specs.declared.session.End.the-variants.{Controller, Reader}
 use Rattle.secure_session.specs.declared.session.Session.{Session}
 use Rattle.secure_session.specs.declared.session.State.the-variants.{Disconnected}
-use Rattle.secure_seal.specs.Seal.{dataLen}
+use Rattle.secure_seal.specs.Seal.{dataLenFor}
 use Rattle.channel.specs.Carried.{Wire, WireFits}
 use Rattle.channel.specs.Handshake.{Wires, WiresFit}
 use Rattle.channel.specs.Talk.{Send}
-use Rattle.channel.specs.Demand.{Conversation, Fits, AllFit, Proper, Agree, Each, Demand3}
+use Rattle.channel.specs.Demand.{Conversation, SendFits, AllFit, Proper, Agree, Each, Demand3}
 use Rattle.channel.proofs.Demand3.{demand3}
 
 -- ---- the handshake's frames
@@ -44,15 +44,15 @@ wires-fit = record {
 }
 
 -- ---- the sealed frames: n bytes x
-plain : End → ℕ → ℕ → Send
-plain e n x = record { who = e; addr = 5; sqn = 1; code = 0x60; encrypt = false; payload = replicate n x; out = zeros 64; work = [] }
+plainSend : End → ℕ → ℕ → Send
+plainSend e n x = record { who = e; addr = 5; sqn = 1; code = 0x60; encrypt = false; payload = replicate n x; out = zeros 64; work = [] }
 
 hidden : End → ℕ → ℕ → Send
 hidden e n x = record { who = e; addr = 0x85; sqn = 2; code = 0x53; encrypt = true; payload = replicate n x; out = zeros 64; work = zeros 32 }
 
-plain-fits : (e : End) (n x : ℕ) → n ≤ 16 → x < 256 → Fits (plain e n x)
-unfolding plain dataLen
-plain-fits e n x h hx =
+plain-send-fits : (e : End) (n x : ℕ) → n ≤ 16 → x < 256 → SendFits (plainSend e n x)
+unfolding plainSend dataLenFor
+plain-send-fits e n x h hx =
     let l = length-replicate {A = ℕ} n x in
     record {
       limits = record { addr = omega arith; sqn = omega arith; code = omega arith; payload = bytes-replicate n x hx; total = omega arith };
@@ -60,8 +60,8 @@ plain-fits e n x h hx =
       work = λ p. absurd (false≢true p);
     }
 
-hidden-fits : (e : End) (n x : ℕ) → n ≤ 16 → x < 256 → Fits (hidden e n x)
-unfolding hidden dataLen
+hidden-fits : (e : End) (n x : ℕ) → n ≤ 16 → x < 256 → SendFits (hidden e n x)
+unfolding hidden dataLenFor
 hidden-fits e n x h hx =
     let l = length-replicate {A = ℕ} n x in
     let m = length-padData (replicate n x) in
@@ -73,7 +73,7 @@ hidden-fits e n x h hx =
 
 -- x is what stands in the encrypted payloads
 sends : ℕ → List Send
-sends x = hidden Controller 16 x ∷ plain Controller 0 9 ∷ plain Reader 8 9 ∷ hidden Reader 3 x ∷ []
+sends x = hidden Controller 16 x ∷ plainSend Controller 0 9 ∷ plainSend Reader 8 9 ∷ hidden Reader 3 x ∷ []
 
 -- ---- the ends
 
@@ -106,7 +106,7 @@ sends-fit : (x : ℕ) → x < 256 → AllFit (sends x)
 unfolding sends
 sends-fit x h = (
   hidden-fits Controller 16 x (omega arith) h,
-  (plain-fits Controller 0 9 (omega arith) (omega arith), (plain-fits Reader 8 9 (omega arith) (omega arith), (hidden-fits Reader 3 x (omega arith) h, tt))),
+  (plain-send-fits Controller 0 9 (omega arith) (omega arith), (plain-send-fits Reader 8 9 (omega arith) (omega arith), (hidden-fits Reader 3 x (omega arith) h, tt))),
 )
 
 filled : (n x : ℕ) → x < 256 → Exactly n (replicate n x)
@@ -130,8 +130,8 @@ other-proper =
     between-proper _ _ 4 5 8 (record { controller = refl; reader = refl; controllerState = refl; readerState = refl; oneKey = refl; key = key; cuid = refl })
     (omega arith) (omega arith) (omega arith)
 
-same : (s : Send) → Agree s s
-same s = record { who = refl; addr = refl; sqn = refl; code = refl; size = refl; encrypt = refl; plain = λ p. refl }
+agree-self : (s : Send) → Agree s s
+agree-self s = record { who = refl; addr = refl; sqn = refl; code = refl; size = refl; encrypt = refl; plain = λ p. refl }
 
 hidden-agree : (e : End) (n x y : ℕ) → Agree (hidden e n x) (hidden e n y)
 unfolding hidden
@@ -145,9 +145,9 @@ hidden-agree e n x y = record {
   plain = λ p. absurd (false≢true (sym p));
 }
 
-pub agree : Each Agree (one .sends) (other .sends)
+pub samples-agree : Each Agree (one .sends) (other .sends)
 unfolding one other between sends
-agree = (hidden-agree Controller 16 7 8, (same (plain Controller 0 9), (same (plain Reader 8 9), (hidden-agree Reader 3 7 8, tt))))
+samples-agree = (hidden-agree Controller 16 7 8, (agree-self (plainSend Controller 0 9), (agree-self (plainSend Reader 8 9), (hidden-agree Reader 3 7 8, tt))))
 
 -- ---- they differ, and yet
 -- what is sent first
@@ -164,9 +164,9 @@ pub record Differ (t u : Conversation) : Type 0 where
   pub rndB : t .rndB ≡ u .rndB → ⊥
   pub contents : opening (t .sends) ≡ opening (u .sends) → ⊥
 
-pub differ : Differ one other
+pub samples-differ : Differ one other
 unfolding one other between fresh used sends hidden
-differ = record {
+samples-differ = record {
   key = first-byte _ _ refl refl (λ (e : 0x30 ≡ 0x31). omega arith);
   rndA = first-byte _ _ refl refl (λ (e : 2 ≡ 4). omega arith);
   rndB = first-byte _ _ refl refl (λ (e : 3 ≡ 5). omega arith);
@@ -174,4 +174,4 @@ differ = record {
 }
 
 pub met : Demand3 one other
-met = demand3 one other one-proper other-proper agree
+met = demand3 one other one-proper other-proper samples-agree

@@ -17,12 +17,12 @@ use Rattle.secure_session.specs.declared.session.End.{End}
 use Rattle.secure_session.specs.declared.session.End.the-variants.{Controller, Reader}
 use Rattle.secure_session.specs.declared.session.Session.{Session}
 use Rattle.secure_session.proofs.Shaken.{Ready}
-use Rattle.secure_seal.specs.Seal.{Asked, dataLen, totalOf, Sealable, SealedFrame, sealedFrame, afterSeal, sealOf}
+use Rattle.secure_seal.specs.Seal.{Asked, dataLenFor, totalOf, Sealable, SealedFrame, sealedFrame, afterSeal, sealOf}
 use Rattle.secure_seal.proofs.SealLaws.{seals, stepsFor, headWith, full-block, frame-length, frame-steps, head-alone, plain-alone}
 use Rattle.secure_unseal.specs.Unseal.{unsealRun, afterUnseal, unsealOf}
 use Rattle.channel.specs.Carried.{onLine}
 use Rattle.channel.specs.Talk.{Send, directionOf, askedIn, Event, showing, transfer, turn, talk}
-use Rattle.channel.specs.Demand.{Fits, AllFit, encryptedLen, openBytes, Each, Arrived}
+use Rattle.channel.specs.Demand.{SendFits, AllFit, encryptedLen, openBytes, Each, Arrived}
 use Rattle.channel.proofs.Delivered.{placeFor, workFor, unseal-run-eq, shown-eq}
 use Rattle.channel.proofs.Ends.{ready-same, ready-other}
 
@@ -36,10 +36,10 @@ module _ (k : SessionKeys) (v : List ℕ) (q : Asked) (hk : GoodKeys k) (hv : Bl
       → take (totalOf q - (encryptedLen e (q .payload) + 4 + 2)) (sealedFrame k v q .bytes) ≡ openFor e q
   unfolding openFor
   open-part true p =
-      let n : totalOf q - (dataLen true (q .payload) + 4 + 2) ≡ 8 = rw p (omega arith) in
+      let n : totalOf q - (dataLenFor true (q .payload) + 4 + 2) ≡ 8 = rw p (omega arith) in
       rw n (head-alone k v q hk hv h)
   open-part false p =
-      let n : totalOf q - (0 + 4 + 2) ≡ 8 + length (q .payload) = rw p (unfold dataLen in (omega arith)) in
+      let n : totalOf q - (0 + 4 + 2) ≡ 8 + length (q .payload) = rw p (unfold dataLenFor in (omega arith)) in
       rw n (plain-alone k v q hk hv h p)
 
 -- ---- what an event is, said without keys, random numbers and encrypted contents
@@ -49,7 +49,7 @@ pub record Heard (s : Send) (e : Event) : Type 0 where
   pub sealCalls : e .sealCalls ≡ stepsFor (s .encrypt) (length (s .payload))
   pub openCalls : e .openCalls ≡ stepsFor (s .encrypt) (length (s .payload))
 
-module _ (a b : Session) (s : Send) (r : Ready a b) (g : Fits s) where
+module _ (a b : Session) (s : Send) (r : Ready a b) (g : SendFits s) where
   abbrev made : SealedFrame
   made = sealedFrame (a .keys) (sendFrom a) (askedIn s)
 
@@ -140,13 +140,13 @@ unfolding Able
 any-able c r [] h = tt
 any-able c r (s ∷ ss) h = h (s .who)
 
-turn-heard : (w : End) (c r : Session) (s : Send) → ReadyFrom w c r → Fits s → Heard s (turn w c r s .event)
+turn-heard : (w : End) (c r : Session) (s : Send) → ReadyFrom w c r → SendFits s → Heard s (turn w c r s .event)
 unfolding turn ReadyFrom
 turn-heard Controller c r s b g = transfer-heard c r s b g
 turn-heard Reader c r s b g = transfer-heard r c s b g
 
 -- after a delivered frame either end may send
-turn-any : (w v : End) (c r : Session) (s : Send) → ReadyFrom w c r → Fits s → ReadyFrom v (turn w c r s .controller) (turn w c r s .reader)
+turn-any : (w v : End) (c r : Session) (s : Send) → ReadyFrom w c r → SendFits s → ReadyFrom v (turn w c r s .controller) (turn w c r s .reader)
 unfolding turn ReadyFrom
 turn-any Controller Controller c r s b g = transfer-same c r s b g
 turn-any Controller Reader c r s b g = transfer-other c r s b g

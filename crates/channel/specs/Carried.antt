@@ -3,10 +3,10 @@
 use Prim.Native.Nat.{ℕ, _≤_}
 use mathlib.Core.Bool.{Bool, true}
 use mathlib.Core.List.{List, []}
-use lib.ListN.{length, take, drop}
+use lib.ListN.{length, take}
 use Rattle.laws.specs.Answer.{Answer, Answer.given, Answer.refused}
-use Rattle.packet_parse.specs.Frame.{Fields, parseOf}
-use Rattle.packet_build.specs.Build.{Block.scb, Parts, totalN, buildOf, sized, written}
+use Rattle.packet_build.specs.Build.{FrameBlock.scb, Parts, totalN, buildOf, sized, written}
+use Rattle.packet_view.specs.View.{payloadOf}
 
 -- how its sender frames it: any address, sequence number, trailer, block data and code, and the buffer that it is built into
 pub record Wire : Type 0 where
@@ -26,17 +26,11 @@ unfoldable pub onLine : Answer ℕ → List ℕ → List ℕ
 onLine (given n) o = take n o
 onLine (refused n vs) o = []
 
--- the data of a frame that was read
-unfoldable pub dataIn : List ℕ → Answer Fields → List ℕ
-dataIn f (given p) = take (p .dataLen) (drop (p .dataStart) f)
-dataIn f (refused n vs) = []
-
 -- what the peer reads
 unfoldable pub carried : ℕ → Wire → List ℕ → List ℕ
 carried ty w x =
     let b = buildOf (wireParts ty w x) (length (w .out)) in
-    let f = onLine (sized b) (written b (w .out)) in
-    dataIn f (parseOf f)
+    payloadOf (onLine (sized b) (written b (w .out)))
 
 -- within limits and buffers, for a message of n bytes
 pub record WireFits (w : Wire) (n : ℕ) : Type 0 where

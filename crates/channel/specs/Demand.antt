@@ -9,7 +9,7 @@ use Rattle.laws.specs.Answer.{Answer.given}
 use Rattle.secure_keys.specs.Keys.{Random}
 use Rattle.secure_session.specs.Apart.{Apart}
 use Rattle.secure_session.specs.declared.session.Session.{Session}
-use Rattle.secure_seal.specs.Seal.{Sealable, dataLen, totalOf}
+use Rattle.secure_seal.specs.Seal.{Sealable, dataLenFor, totalOf}
 use Rattle.channel.specs.Handshake.{Hand, Wires, WiresFit, shakeIn, Succeeded}
 use Rattle.channel.specs.Talk.{Send, askedIn, Event, talk}
 
@@ -31,14 +31,14 @@ eventsOf t = talk (handOf t .controller) (handOf t .reader) (t .sends)
 -- ---- its premises
 
 -- a sealed frame within limits and buffers; only encrypted data need the work buffer
-pub record Fits (s : Send) : Type 0 where
+pub record SendFits (s : Send) : Type 0 where
   pub limits : Sealable (askedIn s)
   pub room : totalOf (askedIn s) ≤ length (s .out)
-  pub work : s .encrypt ≡ true → dataLen (s .encrypt) (s .payload) ≤ length (s .work)
+  pub work : s .encrypt ≡ true → dataLenFor (s .encrypt) (s .payload) ≤ length (s .work)
 
 abbrev pub AllFit : List Send → Type 0
 AllFit [] = Unit {0}
-AllFit (s ∷ ss) = Fits s × AllFit ss
+AllFit (s ∷ ss) = SendFits s × AllFit ss
 
 pub record Proper (t : Conversation) : Type 0 where
   pub apart : Apart (t .controller) (t .reader)
@@ -74,7 +74,7 @@ pub record Arrived (s : Send) (e : Event) : Type 0 where
 
 -- encrypted data, four bytes of MAC and two of trailer stand at a sealed frame's end
 abbrev pub encryptedLen : Bool → List ℕ → ℕ
-encryptedLen true x = dataLen true x
+encryptedLen true x = dataLenFor true x
 encryptedLen false x = 0
 
 abbrev pub secretLen : Send → ℕ

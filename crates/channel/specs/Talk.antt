@@ -11,7 +11,7 @@ use Rattle.secure_seal.specs.declared.frame.Direction.{Direction}
 use Rattle.secure_seal.specs.declared.frame.Direction.the-variants.{AcuToPd, PdToAcu}
 use Rattle.secure_seal.specs.Seal.{Asked, sealOf}
 use Rattle.secure_unseal.specs.Unseal.{Place, unsealOf}
-use Rattle.secure_unseal.specs.Lookup.{shown}
+use Rattle.secure_unseal.specs.Lookup.{payloadShown}
 use Rattle.channel.specs.Carried.{onLine}
 
 -- one frame of a conversation: who sends, what, and the buffers: `out` at the sender, `work` at the peer
@@ -43,7 +43,7 @@ pub record Event : Type 0 where
 
 -- the payload, looked up where the unseal said
 unfoldable pub showing : List ℕ → List ℕ → Answer Place → Answer (List ℕ)
-showing f w (given p) = given (shown (p .inWork) (p .start) (p .len) f w)
+showing f w (given p) = given (payloadShown (p .inWork) (p .start) (p .len) f w)
 showing f w (refused n vs) = refused n vs
 
 -- the sender and the peer after it

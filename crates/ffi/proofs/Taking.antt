@@ -19,7 +19,7 @@ use Rattle.secure_session.specs.declared.session.SteppedBlock.{SteppedBlock}
 use Rattle.secure_session.specs.declared.session.BlockAnswer.{BlockAnswer}
 use Rattle.secure_session.specs.declared.session.KeysAnswer.{KeysAnswer}
 use Rattle.secure_session.specs.Session.{endNumber, stateNumber, wipedOf, fresh}
-use Rattle.secure_session.specs.Handshake.{Step, outcome, steppedBlock, blockAnswer, blockBeside}
+use Rattle.secure_session.specs.Handshake.{Step, outcomeAnswer, steppedBlock, blockAnswer, blockBeside}
 use Rattle.secure_session.specs.Channel.{keysAnswer, keysBeside}
 use Rattle.ffi.specs.Ciphers.{cKeys}
 use Rattle.ffi.specs.Sessions.{endArg, stateArg, sessionWith, sessionArg, reading, cSession, cWiped, cYes, cOutcome, cStepped, cSteppedBlock, cBlockAnswer, cKeysAnswer, steppedArg, steppedBlockArg, blockAnswerArg, keysAnswerArg, doneArg, taken, toldBlock, toldAnswer, toldKeys, noStep, noSteppedBlock}
@@ -77,7 +77,7 @@ in-and-out c s =
 -- ---- answers
 
 -- an outcome says yes or the refusal, whatever stands beside it
-pub told-outcome : {A : Type 0} (o : Outcome) (a : A) → cOutcome o ≡ cYes (outcome o a)
+pub told-outcome : {A : Type 0} (o : Outcome) (a : A) → cOutcome o ≡ cYes (outcomeAnswer o a)
 told-outcome Outcome.Done a = refl
 told-outcome (Outcome.Refused e) a = refl
 
@@ -108,7 +108,7 @@ unreadable x n vs f g e = rw e
 module _ (c : CSession) (r : Taken) (h : taken r ≡ sessionArg c) where
   module _ (y : r .outcome ≡ Outcome.Done) where
     pub is-read : sessionArg c ≡ given (r .session)
-    is-read = sym h ∙ ap (λ (o : Outcome). outcome o (r .session)) y
+    is-read = sym h ∙ ap (λ (o : Outcome). outcomeAnswer o (r .session)) y
 
     pub stepped-read : (f : Session → Step (Unit {0})) (d : Step (Unit {0})) → d ≡ f (r .session) → cStepped d ≡ steppedArg c f
     unfolding steppedArg
@@ -132,7 +132,7 @@ module _ (c : CSession) (r : Taken) (h : taken r ≡ sessionArg c) where
 
   module _ (e : Refusal) (y : r .outcome ≡ Outcome.Refused e) where
     pub not-read : sessionArg c ≡ refusalOf e
-    not-read = sym h ∙ ap (λ (o : Outcome). outcome o (r .session)) y
+    not-read = sym h ∙ ap (λ (o : Outcome). outcomeAnswer o (r .session)) y
 
     pub stepped-not : (f : Session → Step (Unit {0})) → noStep c e ≡ steppedArg c f
     unfolding steppedArg

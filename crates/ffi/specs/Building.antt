@@ -10,14 +10,14 @@ use Rattle.refusal.specs.Paper.{refusalOf}
 use Rattle.packet_head.specs.Header.{sqnOf}
 use Rattle.packet_head.specs.Block.{scsOf}
 use Rattle.packet_build.specs.declared.codec.GivenMac.{GivenMac}
-use Rattle.packet_build.specs.Build.{Block, Block.noBlock, Block.scb, Parts, partsOf, buildOf, bodyOf, blockOf, macBytes}
+use Rattle.packet_build.specs.Build.{FrameBlock, FrameBlock.noScb, FrameBlock.scb, Parts, partsGiven, buildOf, bodyOf, scbGiven, macBytes}
 use Rattle.ffi.specs.declared.build.CPacket.{CPacket}
 use Rattle.ffi.specs.declared.build.CMac.{CMac}
 use Rattle.ffi.specs.declared.build.Kind.{Kind}
-use Rattle.ffi.specs.declared.build.Asked.{Asked}
+use Rattle.ffi.specs.declared.build.AskedPacket.{AskedPacket}
 
-unfoldable pub blockArg : ℕ → List ℕ → Answer Block
-blockArg ty l = choose (eqb ty 0) (given noBlock) (andThen (scsOf ty) (λ t. given (scb t l)))
+unfoldable pub blockArg : ℕ → List ℕ → Answer FrameBlock
+blockArg ty l = choose (eqb ty 0) (given noScb) (andThen (scsOf ty) (λ t. given (scb t l)))
 
 abbrev pub macArg : CMac → List ℕ
 macArg m = cond (m .given) (m .b0 ∷ m .b1 ∷ m .b2 ∷ m .b3 ∷ []) []
@@ -37,17 +37,17 @@ bodyArg p l d have = andThen (partsArg p l d []) (λ q. bodyOf q have)
 
 -- ---- the code's kinds, given the bytes that come beside them
 
-abbrev pub kindAnswer : Kind → List ℕ → Answer Block
-kindAnswer (Kind.Good k) l = given (blockOf k l)
+abbrev pub kindAnswer : Kind → List ℕ → Answer FrameBlock
+kindAnswer (Kind.Good k) l = given (scbGiven k l)
 kindAnswer (Kind.Refused e) l = refusalOf e
 
-abbrev pub askedParts : Asked → List ℕ → List ℕ → GivenMac → Answer Parts
-askedParts (Asked.Good w) l d m = given (partsOf w l d m)
-askedParts (Asked.Refused e) l d m = refusalOf e
+abbrev pub askedParts : AskedPacket → List ℕ → List ℕ → GivenMac → Answer Parts
+askedParts (AskedPacket.Good w) l d m = given (partsGiven w l d m)
+askedParts (AskedPacket.Refused e) l d m = refusalOf e
 
 -- what the functions below the exports promise, whatever bytes come beside
 abbrev pub KindMeets : Kind → ℕ → Type 0
 KindMeets k ty = (l : List ℕ) → kindAnswer k l ≡ blockArg ty l
 
-abbrev pub AskedMeets : Asked → CPacket → Type 0
+abbrev pub AskedMeets : AskedPacket → CPacket → Type 0
 AskedMeets r p = (l d : List ℕ) (m : GivenMac) → askedParts r l d m ≡ partsArg p l d (macBytes m)

@@ -19,7 +19,7 @@ use Rattle.secure_session.specs.declared.session.SteppedBlock.{SteppedBlock}
 use Rattle.secure_session.specs.declared.session.BlockAnswer.{BlockAnswer}
 use Rattle.secure_session.specs.declared.session.KeysAnswer.{KeysAnswer}
 use Rattle.secure_session.specs.Session.{endNumber, stateNumber, noKeys}
-use Rattle.secure_session.specs.Handshake.{Step, outcome, blockBeside}
+use Rattle.secure_session.specs.Handshake.{Step, outcomeAnswer, blockBeside}
 use Rattle.secure_session.specs.Channel.{keysBeside}
 use Rattle.ffi.specs.Answers.{cGiven, cRefused, cRefusal}
 use Rattle.ffi.specs.Ciphers.{cKeys}
@@ -124,7 +124,7 @@ stateRead (StateRead.Good t) = given t
 stateRead (StateRead.Refused e) = refusalOf e
 
 abbrev pub taken : Taken → Answer Session
-taken r = outcome (r .outcome) (r .session)
+taken r = outcomeAnswer (r .outcome) (r .session)
 
 abbrev pub cOutcome : Outcome → CAnswer
 cOutcome Outcome.Done = cGiven 0

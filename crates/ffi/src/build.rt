@@ -44,7 +44,7 @@ pub(crate) enum Kind {
     Refused(Refusal),
 }
 
-pub(crate) enum Asked {
+pub(crate) enum AskedPacket {
     Good(PacketBuilder),
     Refused(Refusal),
 }
@@ -61,20 +61,20 @@ fn kind_of(ty: u8) -> Kind
     }
 }
 
-fn ask(p: CPacket) -> Asked
+fn ask(p: CPacket) -> AskedPacket
     ensures { λ r. ⌜ AskedMeets r p ⌝ }
 {
     match Sqn::new(p.sqn) {
         SqnAnswer::Good(sqn) => match kind_of(p.block_type) {
-            Kind::Good(block) => Asked::Good(PacketBuilder {
+            Kind::Good(block) => AskedPacket::Good(PacketBuilder {
                 addr: Address::from_raw(p.addr),
                 ctrl: ControlByte::new(sqn, p.crc, p.block),
                 block,
                 code: p.code,
             }),
-            Kind::Refused(e) => Asked::Refused(e),
+            Kind::Refused(e) => AskedPacket::Refused(e),
         },
-        SqnAnswer::Refused(e) => Asked::Refused(e),
+        SqnAnswer::Refused(e) => AskedPacket::Refused(e),
     }
 }
 
@@ -110,8 +110,8 @@ pub extern "C" fn malstrink_build(
     ensures { λ _. ⌜ now (out .exit) ≡ written (buildArg p (now (block .entry)) (now («data» .entry)) (macArg mac) (length (now (out .entry)))) (now (out .entry)) ⌝ }
 {
     match ask(p) {
-        Asked::Good(w) => built_c(packet_build::build(w, block, data, mac_of(mac), out)),
-        Asked::Refused(e) => refused(e),
+        AskedPacket::Good(w) => built_c(packet_build::build(w, block, data, mac_of(mac), out)),
+        AskedPacket::Refused(e) => refused(e),
     }
 }
 
@@ -127,7 +127,7 @@ pub extern "C" fn malstrink_build_body(
     ensures { λ _. ⌜ now (out .exit) ≡ written (bodyArg p (now (block .entry)) (now («data» .entry)) (length (now (out .entry)))) (now (out .entry)) ⌝ }
 {
     match ask(p) {
-        Asked::Good(w) => built_c(packet_build::build_body(w, block, data, out)),
-        Asked::Refused(e) => refused(e),
+        AskedPacket::Good(w) => built_c(packet_build::build_body(w, block, data, out)),
+        AskedPacket::Refused(e) => refused(e),
     }
 }

@@ -1,7 +1,7 @@
 // Padding, the chain MAC, and CBC into a buffer that the caller lends.
 ghost use mathlib.Core.Path.{_≡_};
 ghost use Rattle.laws.specs.Bytes.{compl};
-ghost use Rattle.secure_cipher.specs.Pad.{padMac, padData, unpad, fits, after, lengthAnswer};
+ghost use Rattle.secure_cipher.specs.Pad.{padMac, padData, unpad, roomFor, paddedInto, lengthAnswer};
 ghost use Rattle.secure_cipher.specs.Cbc.{encryptOf, decryptOf};
 ghost use Rattle.secure_cipher.specs.Mac.{macOf};
 ghost use Rattle.ffi.specs.Answers.{cAnswer};
@@ -47,16 +47,16 @@ pub(crate) fn ciphered_c(c: Ciphered) -> CCiphered
 
 #[no_mangle]
 pub extern "C" fn malstrink_pad_mac(data: &[u8], out: &mut [u8]) -> CAnswer
-    ensures { λ r. ⌜ r ≡ cAnswer (fits (padMac (now («data» .entry))) (now (out .entry))) ⌝ }
-    ensures { λ _. ⌜ now (out .exit) ≡ after (fits (padMac (now («data» .entry))) (now (out .entry))) (padMac (now («data» .entry))) (now (out .entry)) ⌝ }
+    ensures { λ r. ⌜ r ≡ cAnswer (roomFor (padMac (now («data» .entry))) (now (out .entry))) ⌝ }
+    ensures { λ _. ⌜ now (out .exit) ≡ paddedInto (roomFor (padMac (now («data» .entry))) (now (out .entry))) (padMac (now («data» .entry))) (now (out .entry)) ⌝ }
 {
     length_c(secure_cipher::pad_mac(data, out))
 }
 
 #[no_mangle]
 pub extern "C" fn malstrink_pad_data(data: &[u8], out: &mut [u8]) -> CAnswer
-    ensures { λ r. ⌜ r ≡ cAnswer (fits (padData (now («data» .entry))) (now (out .entry))) ⌝ }
-    ensures { λ _. ⌜ now (out .exit) ≡ after (fits (padData (now («data» .entry))) (now (out .entry))) (padData (now («data» .entry))) (now (out .entry)) ⌝ }
+    ensures { λ r. ⌜ r ≡ cAnswer (roomFor (padData (now («data» .entry))) (now (out .entry))) ⌝ }
+    ensures { λ _. ⌜ now (out .exit) ≡ paddedInto (roomFor (padData (now («data» .entry))) (now (out .entry))) (padData (now («data» .entry))) (now (out .entry)) ⌝ }
 {
     length_c(secure_cipher::pad_data(data, out))
 }

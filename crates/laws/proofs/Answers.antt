@@ -4,6 +4,7 @@ use mathlib.Core.Path.{_≡_, refl, sym, ap, _∙_, subst}
 use mathlib.Core.Bool.{Bool, true, false}
 use mathlib.Core.List.{List}
 use Prim.Native.Nat.{ℕ}
+use native.Mathlib.Omega.{arith}
 use Rattle.laws.specs.Answer.{Answer, Answer.given, Answer.refused, refuseIf, choose, andThen}
 
 -- P of what was given, nothing of a refusal
@@ -36,6 +37,10 @@ holds-mono P Q (refused n vs) f h = tt
 
 pub given-inj : {A : Type 0} (a b : A) → given a ≡ given b → a ≡ b
 given-inj a b e = cc
+
+-- no answer is both
+pub given-refused : {A : Type 0} {a : A} {n : ℕ} {vs : List ℕ} → given a ≡ refused n vs → ⊥
+given-refused e = let z : _≡_ {A = ℕ} 0 1 = cc in omega arith
 
 -- a choice whose test is known, where the test stands elsewhere too and is not to be rewritten there
 pub choose-true : {A : Type 0} (t : Bool) (a b : Answer A) → t ≡ true → choose t a b ≡ a

@@ -95,13 +95,13 @@ unfolding eql
 eql-refl [] = refl
 eql-refl (x ∷ xs) = rw (eq-eqb x x refl) (eql-refl xs)
 
-both : (t : Bool) (x y : ℕ) (xs ys : List ℕ) → eqb x y ≡ t → t && eql xs ys ≡ true → (eql xs ys ≡ true → xs ≡ ys) → x ∷ xs ≡ y ∷ ys
-both true x y xs ys h f g = ap₂ (λ (a : ℕ) (b : List ℕ). a ∷ b) (eqb-true x y h) (g f)
-both false x y xs ys h f g = cc
+eql-parts : (t : Bool) (x y : ℕ) (xs ys : List ℕ) → eqb x y ≡ t → t && eql xs ys ≡ true → (eql xs ys ≡ true → xs ≡ ys) → x ∷ xs ≡ y ∷ ys
+eql-parts true x y xs ys h f g = ap₂ (λ (a : ℕ) (b : List ℕ). a ∷ b) (eqb-true x y h) (g f)
+eql-parts false x y xs ys h f g = cc
 
 pub eql-true : (a b : List ℕ) → eql a b ≡ true → a ≡ b
 unfolding eql
 eql-true [] [] e = refl
 eql-true [] (y ∷ ys) e = cc
 eql-true (x ∷ xs) [] e = cc
-eql-true (x ∷ xs) (y ∷ ys) e = both (eqb x y) x y xs ys refl e (eql-true xs ys)
+eql-true (x ∷ xs) (y ∷ ys) e = eql-parts (eqb x y) x y xs ys refl e (eql-true xs ys)

@@ -19,14 +19,14 @@ getD-from f i (suc n) zero h = ap f (sym (add-zero i))
 getD-from f i (suc n) (suc k) h = getD-from f (suc i) n k (le-of-suc-le-suc h) ∙ ap f (suc-add i k ∙ sym (add-suc i k))
 
 -- the front of a list
-pub listed : (s : List ℕ) (n : ℕ) → n ≤ length s → from (λ i. getD s i 0) 0 n ≡ take n s
-listed s n h =
+pub front-listed : (s : List ℕ) (n : ℕ) → n ≤ length s → from (λ i. getD s i 0) 0 n ≡ take n s
+front-listed s n h =
     let e = length-from (λ i. getD s i 0) 0 n in
     ext-getD 0 (from (λ i. getD s i 0) 0 n) (take n s) (e ∙ sym (length-take-le n s h))
     (λ i lt. let k : i < n = omega arith in rw (getD-from, zero-add, getD-take))
 
 pub all-listed : (s : List ℕ) (n : ℕ) → length s ≡ n → from (λ i. getD s i 0) 0 n ≡ s
-all-listed s n h = listed s n (omega arith) ∙ take-all n s (omega arith)
+all-listed s n h = front-listed s n (omega arith) ∙ take-all n s (omega arith)
 
 -- ---- sixteen
 
@@ -38,6 +38,6 @@ pub getD-blockOf : (f : ℕ → ℕ) (k : ℕ) → k < 16 → getD (blockOf f) k
 unfolding blockOf
 getD-blockOf f k h = getD-from f 0 16 k h ∙ ap f (zero-add k)
 
-pub whole : (s : List ℕ) → length s ≡ 16 → blockOf (λ i. getD s i 0) ≡ s
+pub block-listed : (s : List ℕ) → length s ≡ 16 → blockOf (λ i. getD s i 0) ≡ s
 unfolding blockOf
-whole s h = all-listed s 16 h
+block-listed s h = all-listed s 16 h

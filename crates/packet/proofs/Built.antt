@@ -20,30 +20,30 @@ use Rattle.laws.proofs.Answers.{choose-true, choose-false}
 use Rattle.packet_parse.specs.Trailer.{crcGot, sumGot, trailerOf}
 use Rattle.packet_parse.specs.Frame.{Fields, BlockAt, BlockAt.noBlock, BlockAt.blockAt, MacAt, macAt, lenOf, headOf, fieldsOf, partsOf, frameOf, parseOf}
 use Rattle.packet_build.specs.Build as made
-use Rattle.packet_build.specs.Build.{Parts, Block, Block.scb, blockBytes, tailBytes, bytesOf, signedBytes, bodyBytes, buildOf}
+use Rattle.packet_build.specs.Build.{Parts, FrameBlock, FrameBlock.noScb, FrameBlock.scb, blockBytes, tailBytes, frameBytes, signedBytes, bodyBytes, buildOf}
 use Rattle.packet_build.proofs.Sizes.{Fine, Whole, whole, whole-length, body-length, bytes-length, tail-length}
 
 -- ---- the control byte
 
-control-back : (q : ℕ) (t u : Bool) → q ≤ 3 → controlOf (ctrlByte (q, t, u)) ≡ given (q, t, u)
+control-read-back : (q : ℕ) (t u : Bool) → q ≤ 3 → controlOf (ctrlByte (q, t, u)) ≡ given (q, t, u)
 unfolding controlOf refuseIf
-control-back zero true true h = refl
-control-back zero true false h = refl
-control-back zero false true h = refl
-control-back zero false false h = refl
-control-back (suc zero) true true h = refl
-control-back (suc zero) true false h = refl
-control-back (suc zero) false true h = refl
-control-back (suc zero) false false h = refl
-control-back (suc (suc zero)) true true h = refl
-control-back (suc (suc zero)) true false h = refl
-control-back (suc (suc zero)) false true h = refl
-control-back (suc (suc zero)) false false h = refl
-control-back (suc (suc (suc zero))) true true h = refl
-control-back (suc (suc (suc zero))) true false h = refl
-control-back (suc (suc (suc zero))) false true h = refl
-control-back (suc (suc (suc zero))) false false h = refl
-control-back (suc (suc (suc (suc q)))) t u h = absurd (omega arith)
+control-read-back zero true true h = refl
+control-read-back zero true false h = refl
+control-read-back zero false true h = refl
+control-read-back zero false false h = refl
+control-read-back (suc zero) true true h = refl
+control-read-back (suc zero) true false h = refl
+control-read-back (suc zero) false true h = refl
+control-read-back (suc zero) false false h = refl
+control-read-back (suc (suc zero)) true true h = refl
+control-read-back (suc (suc zero)) true false h = refl
+control-read-back (suc (suc zero)) false true h = refl
+control-read-back (suc (suc zero)) false false h = refl
+control-read-back (suc (suc (suc zero))) true true h = refl
+control-read-back (suc (suc (suc zero))) true false h = refl
+control-read-back (suc (suc (suc zero))) false true h = refl
+control-read-back (suc (suc (suc zero))) false false h = refl
+control-read-back (suc (suc (suc (suc q)))) t u h = absurd (omega arith)
 
 -- ---- the trailer
 
@@ -51,9 +51,9 @@ pub tailOf : Bool → List ℕ → Tail
 tailOf true x = crc (crcOf x)
 tailOf false x = checksum (checksumOf x)
 
-trailer-back : (x : List ℕ) (t : Bool) → trailerOf (x ++ tailBytes t x) t ≡ given (tailOf t x)
+trailer-read-back : (x : List ℕ) (t : Bool) → trailerOf (x ++ tailBytes t x) t ≡ given (tailOf t x)
 unfolding trailerOf tailOf refuseIf
-trailer-back x true =
+trailer-read-back x true =
     let c = crcOf x in
     let f = x ++ (c % 256 ∷ c / 256 ∷ []) in
     let l : length f ≡ length x + 2 = length-append x (c % 256 ∷ c / 256 ∷ []) in
@@ -64,7 +64,7 @@ trailer-back x true =
     let got : crcGot f ≡ c = omega arith in
     let want : crcOf (take (length f - 2) f) ≡ c = ap crcOf (ap (λ (n : ℕ). take n f) i ∙ take-at x (c % 256 ∷ c / 256 ∷ []) (length x) refl) in
     ap₂ (λ (g w : ℕ). refuseIf (not (eqb g w)) 7 (g ∷ w ∷ []) (given (crc g))) got want ∙ rw (eq-eqb c c refl)
-trailer-back x false =
+trailer-read-back x false =
     let c = checksumOf x in
     let f = x ++ (c ∷ []) in
     let l : length f ≡ length x + 1 = length-append x (c ∷ []) in
@@ -83,13 +83,13 @@ parts-back x a c k at mac h =
     let l : length f ≡ length x + trailerLen (c .1) = length-append x (tailBytes (c .1) x) ∙ ap (λ (n : ℕ). length x + n) (tail-length (c .1) x) in
     let h₁ : at + 1 + trailerLen (c .1) ≤ length f = omega arith in
     let h₂ : at + 1 + macLen mac + trailerLen (c .1) ≤ length f = omega arith in
-    rw (le-ltb _ _ h₁, le-ltb _ _ h₂, trailer-back x (c .1))
+    rw (le-ltb _ _ h₁, le-ltb _ _ h₂, trailer-read-back x (c .1))
 
 -- ---- the block
 
-block-back : (l r : List ℕ) (ty : ℕ) → scsOf ty ≡ given ty → scbOf ((length l + 2) ∷ ty ∷ (l ++ r)) ≡ given (ty, length l)
+block-read-back : (l r : List ℕ) (ty : ℕ) → scsOf ty ≡ given ty → scbOf ((length l + 2) ∷ ty ∷ (l ++ r)) ≡ given (ty, length l)
 unfolding scbOf refuseIf andThen
-block-back l r ty e =
+block-read-back l r ty e =
     let n : length (l ++ r) ≡ length l + length r = length-append l r in
     let h₁ : 2 ≤ length ((length l + 2) ∷ ty ∷ (l ++ r)) = omega arith in
     let h₂ : 2 ≤ length l + 2 = omega arith in
@@ -116,7 +116,7 @@ frame-block x l r ty a c e t d h =
     let f = x ++ tailBytes (c .1) x in
     let n : length f ≡ length x + trailerLen (c .1) = length-append x (tailBytes (c .1) x) ∙ ap (λ (n : ℕ). length x + n) (tail-length (c .1) x) in
     let h₁ : 6 + trailerLen (c .1) ≤ length f = omega arith in
-    let k : scbOf (drop 5 f) ≡ given (ty, length l) = ap scbOf d ∙ block-back l r ty t in
+    let k : scbOf (drop 5 f) ≡ given (ty, length l) = ap scbOf d ∙ block-read-back l r ty t in
     rw (le-ltb _ _ h₁, k) (choose-true _ _ _ e ∙ parts-back x a c (blockAt ty 7 (length l)) (7 + length l) (hasMac ty) (omega arith))
 
 -- ---- the header
@@ -126,25 +126,25 @@ parse-head : (s f : List ℕ) (a : ℕ) (c : Control) → getD s 0 0 ≡ 0x53 �
 unfolding parseOf headOf refuseIf andThen
 parse-head s f a c e₀ e₁ e₄ h l t = rw (le-ltb _ _ h, eq-eqb _ _ e₀, e₄, e₁, le-ltb _ _ l, t)
 
-frame-of : (p : Parts) (n : ℕ) (rest : List ℕ) → length (bytesOf p n) ≡ n → p .ctrl .0 ≤ 3 → parseOf (bytesOf p n ++ rest) ≡ frameOf (bytesOf p n) (p .addr) (p .ctrl)
-unfolding bytesOf bodyBytes
+frame-of : (p : Parts) (n : ℕ) (rest : List ℕ) → length (frameBytes p n) ≡ n → p .ctrl .0 ≤ 3 → parseOf (frameBytes p n ++ rest) ≡ frameOf (frameBytes p n) (p .addr) (p .ctrl)
+unfolding frameBytes bodyBytes
 frame-of p n rest l q =
-    let f = bytesOf p n in
+    let f = frameBytes p n in
     let s = f ++ rest in
     let ls : length s ≡ n + length rest = length-append f rest ∙ ap (λ (k : ℕ). k + length rest) l in
     let six : 6 ≤ n = omega (arith, bytes-length p n) in
     let len : lenOf s ≡ n = omega arith in
-    parse-head s f (p .addr) (p .ctrl) refl refl (control-back (p .ctrl .0) (p .ctrl .1) (p .ctrl .2) q) (omega arith) (omega arith) (ap (λ (k : ℕ). take k s) len ∙ take-at f rest n l)
+    parse-head s f (p .addr) (p .ctrl) refl refl (control-read-back (p .ctrl .0) (p .ctrl .1) (p .ctrl .2) q) (omega arith) (omega arith) (ap (λ (k : ℕ). take k s) len ∙ take-at f rest n l)
 
 -- ---- the whole
 
-abbrev pub placeOf : Block → BlockAt
-placeOf Block.noBlock = noBlock
+abbrev pub placeOf : FrameBlock → BlockAt
+placeOf noScb = noBlock
 placeOf (scb ty l) = blockAt ty 7 (length l)
 
 -- where the parts of p stand in its frame of n bytes
-abbrev pub placesOf : Parts → ℕ → Fields
-placesOf p n =
+abbrev pub builtFields : Parts → ℕ → Fields
+builtFields p n =
     record {
       addr = p .addr;
       ctrl = p .ctrl;
@@ -158,8 +158,8 @@ placesOf p n =
     }
 
 -- a block's type is one of the eight
-abbrev pub Typed : Block → Type 0
-Typed Block.noBlock = Unit {0}
+abbrev pub Typed : FrameBlock → Type 0
+Typed noScb = Unit {0}
 Typed (scb ty l) = scsOf ty ≡ given ty
 
 pub tail-end : (l : List ℕ) (k : ℕ) (d m t : List ℕ) → l ++ (k ∷ []) ++ d ++ m ++ t ≡ l ++ (k ∷ (d ++ (m ++ t)))
@@ -172,17 +172,17 @@ pub same-fields : (a : ℕ) (c : Control) (b : BlockAt) (t : Tail) {k k′ s s�
     → fieldsAt a c b t k s n m l ≡ fieldsAt a c b t k′ s′ n′ m′ l′
 same-fields a c b t ek es en em el = λ i. fieldsAt a c b t (ek i) (es i) (en i) (em i) (el i)
 
-abbrev mk : ℕ → Control → Block → ℕ → List ℕ → List ℕ → Parts
+abbrev mk : ℕ → Control → FrameBlock → ℕ → List ℕ → List ℕ → Parts
 mk a c b k d m = record { addr = a; ctrl = c; block = b; code = k; «data» = d; mac = m }
 
-places : (a : ℕ) (c : Control) (b : Block) (k : ℕ) (d m : List ℕ) (n have : ℕ) → Typed b → length (bytesOf (mk a c b k d m) n) ≡ n
+places : (a : ℕ) (c : Control) (b : FrameBlock) (k : ℕ) (d m : List ℕ) (n have : ℕ) → Typed b → length (frameBytes (mk a c b k d m) n) ≡ n
     → Fine c (made.present b) (made.due b) (length m) (made.blockN b) (length d) have n
-    → frameOf (bytesOf (mk a c b k d m) n) a c ≡ given (placesOf (mk a c b k d m) n)
-unfolding bytesOf bodyBytes
-places a c Block.noBlock k d m n have ty l f =
-    let p = mk a c Block.noBlock k d m in
+    → frameOf (frameBytes (mk a c b k d m) n) a c ≡ given (builtFields (mk a c b k d m) n)
+unfolding frameBytes bodyBytes
+places a c noScb k d m n have ty l f =
+    let p = mk a c noScb k d m in
     let x = signedBytes p n in
-    let lx : length x ≡ 6 + length d + length m = length-append (bodyBytes a c Block.noBlock k d n) m ∙ ap (λ (j : ℕ). j + length m) (body-length a c Block.noBlock k d n) in
+    let lx : length x ≡ 6 + length d + length m = length-append (bodyBytes a c noScb k d n) m ∙ ap (λ (j : ℕ). j + length m) (body-length a c noScb k d n) in
     let len : length (x ++ tailBytes (c .1) x) - (6 + trailerLen (c .1)) ≡ length d = omega (arith, f .total, f .macs) in
     frame-none x a c (sym (f .flag)) (omega arith) ∙ ap given (same-fields a c noBlock (tailOf (c .1) x) refl refl len refl l)
 places a c (scb t bl) k d m n have ty l f =
@@ -201,11 +201,11 @@ places a c (scb t bl) k d m n have ty l f =
     frame-block x bl r t a c (sym (f .flag)) ty e (omega (arith, f .macs)) ∙ ap given (same-fields a c (blockAt t 7 (length bl)) (tailOf (c .1) x) code start len (ap (macAt (hasMac t)) mac) l)
 
 -- A frame that was built is read back: it gives the places of the parts it was built from, whatever follows it.
-pub built-reads : (p : Parts) (have : ℕ) (b rest : List ℕ) → Typed (p .block) → buildOf p have ≡ given b → parseOf (b ++ rest) ≡ given (placesOf p (length b))
+pub built-reads : (p : Parts) (have : ℕ) (b rest : List ℕ) → Typed (p .block) → buildOf p have ≡ given b → parseOf (b ++ rest) ≡ given (builtFields p (length b))
 built-reads p have b rest ty e =
     let w = holds-given (Whole p have) (buildOf p have) b (whole p have) e in
     let f = w .tests in
     let l = whole-length p have (w .n) f in
     let lb : w .n ≡ length b = sym l ∙ ap length (sym (w .bytes)) in
     ap (λ (z : List ℕ). parseOf (z ++ rest)) (w .bytes) ∙ frame-of p (w .n) rest l (f .sqn)
-    ∙ places (p .addr) (p .ctrl) (p .block) (p .code) (p .«data») (p .mac) (w .n) have ty l f ∙ ap (λ (n : ℕ). given (placesOf p n)) lb
+    ∙ places (p .addr) (p .ctrl) (p .block) (p .code) (p .«data») (p .mac) (w .n) have ty l f ∙ ap (λ (n : ℕ). given (builtFields p n)) lb

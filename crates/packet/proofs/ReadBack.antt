@@ -11,42 +11,42 @@ use Rattle.laws.specs.Answer.{Answer.given}
 use Rattle.packet_head.specs.Header.{Control}
 use Rattle.laws.proofs.Answers.{holds-given}
 use Rattle.laws.proofs.Lists.{middle, nothing}
-use Rattle.packet_parse.specs.Frame.{parseOf, BlockAt.noBlock, macAt}
+use Rattle.packet_parse.specs.Frame.{parseOf, macAt}
 use Rattle.packet_build.specs.Build as made
-use Rattle.packet_build.specs.Build.{Parts, Block, Block.scb, blockBytes, headBytes, tailBytes, bytesOf, signedBytes, bodyBytes, buildOf}
+use Rattle.packet_build.specs.Build.{Parts, FrameBlock, FrameBlock.noScb, FrameBlock.scb, blockBytes, headBytes, tailBytes, frameBytes, signedBytes, bodyBytes, buildOf}
 use Rattle.packet_build.proofs.Sizes.{Whole, whole}
-use Rattle.packet.proofs.Built.{placeOf, placesOf, Typed, tail-end, built-reads}
-use Rattle.packet.proofs.Rebuilt.{blockFrom, macBytesFrom, partsFrom}
+use Rattle.packet.proofs.Built.{placeOf, builtFields, Typed, tail-end, built-reads}
+use Rattle.packet.proofs.Rebuilt.{frameBlockFrom, macBytesFrom, partsFrom}
 
-mac-at : (t : Bool) (q m r : List ℕ) (i : ℕ) → length q ≡ i → length m ≡ cond t 4 0 → macBytesFrom (macAt t i) (q ++ (m ++ r)) ≡ m
-mac-at true q m r i e f = middle q m r i 4 e f
-mac-at false q m r i e f = nothing m f
+mac-taken : (t : Bool) (q m r : List ℕ) (i : ℕ) → length q ≡ i → length m ≡ cond t 4 0 → macBytesFrom (macAt t i) (q ++ (m ++ r)) ≡ m
+mac-taken true q m r i e f = middle q m r i 4 e f
+mac-taken false q m r i e f = nothing m f
 
-block-at : (a : ℕ) (c : Control) (b : Block) (k : ℕ) (d m t : List ℕ) (n : ℕ) → blockFrom (placeOf b) (bodyBytes a c b k d n ++ m ++ t) ≡ b
+block-taken : (a : ℕ) (c : Control) (b : FrameBlock) (k : ℕ) (d m t : List ℕ) (n : ℕ) → frameBlockFrom (placeOf b) (bodyBytes a c b k d n ++ m ++ t) ≡ b
 unfolding bodyBytes
-block-at a c Block.noBlock k d m t n = refl
-block-at a c (scb ty l) k d m t n = ap (scb ty) (ap (take (length l)) (tail-end l k d m t) ∙ take-at l (k ∷ (d ++ (m ++ t))) (length l) refl)
+block-taken a c noScb k d m t n = refl
+block-taken a c (scb ty l) k d m t n = ap (scb ty) (ap (take (length l)) (tail-end l k d m t) ∙ take-at l (k ∷ (d ++ (m ++ t))) (length l) refl)
 
-same-parts : (a : ℕ) (c : Control) (k : ℕ) {b b′ : Block} {d d′ m m′ : List ℕ} → b ≡ b′ → d ≡ d′ → m ≡ m′
+same-parts : (a : ℕ) (c : Control) (k : ℕ) {b b′ : FrameBlock} {d d′ m m′ : List ℕ} → b ≡ b′ → d ≡ d′ → m ≡ m′
     → _≡_ {A = Parts} (record { addr = a; ctrl = c; block = b; code = k; «data» = d; mac = m }) (record { addr = a; ctrl = c; block = b′; code = k; «data» = d′; mac = m′ })
 same-parts a c k eb ed em = λ i. record { addr = a; ctrl = c; block = eb i; code = k; «data» = ed i; mac = em i }
 
-contents : (p : Parts) (n : ℕ) → length (p .mac) ≡ cond (made.due (p .block)) 4 0 → partsFrom (bytesOf p n) (placesOf p n) ≡ p
-unfolding bytesOf bodyBytes
+contents : (p : Parts) (n : ℕ) → length (p .mac) ≡ cond (made.due (p .block)) 4 0 → partsFrom (frameBytes p n) (builtFields p n) ≡ p
+unfolding frameBytes bodyBytes
 contents p n lm =
     let q = headBytes (p .addr) (p .ctrl) n ++ blockBytes (p .block) ++ (p .code ∷ []) in
     let t = tailBytes (p .ctrl .1) (signedBytes p n) in
     let lq : length q ≡ 6 + length (blockBytes (p .block)) = simp length-append (omega arith) in
-    let f : bytesOf p n ≡ q ++ (p .«data» ++ (p .mac ++ t)) = append-assoc (q ++ p .«data») (p .mac) t ∙ append-assoc q (p .«data») (p .mac ++ t) in
-    let g : bytesOf p n ≡ q ++ p .«data» ++ (p .mac ++ t) = append-assoc (q ++ p .«data») (p .mac) t in
+    let f : frameBytes p n ≡ q ++ (p .«data» ++ (p .mac ++ t)) = append-assoc (q ++ p .«data») (p .mac) t ∙ append-assoc q (p .«data») (p .mac ++ t) in
+    let g : frameBytes p n ≡ q ++ p .«data» ++ (p .mac ++ t) = append-assoc (q ++ p .«data») (p .mac) t in
     same-parts (p .addr) (p .ctrl) (p .code)
-    (block-at (p .addr) (p .ctrl) (p .block) (p .code) (p .«data») (p .mac) t n)
+    (block-taken (p .addr) (p .ctrl) (p .block) (p .code) (p .«data») (p .mac) t n)
     (ap (λ (z : List ℕ). take (length (p .«data»)) (drop (6 + length (blockBytes (p .block))) z)) f ∙ middle q (p .«data») (p .mac ++ t) _ _ lq refl)
-    (ap (macBytesFrom (macAt (made.due (p .block)) (6 + length (blockBytes (p .block)) + length (p .«data»)))) g ∙ mac-at (made.due (p .block)) (q ++ p .«data») (p .mac) t _ (simp length-append (omega arith)) lm)
+    (ap (macBytesFrom (macAt (made.due (p .block)) (6 + length (blockBytes (p .block)) + length (p .«data»)))) g ∙ mac-taken (made.due (p .block)) (q ++ p .«data») (p .mac) t _ (simp length-append (omega arith)) lm)
 
 -- What was built is accepted, whatever follows it, and what stands at the places that reading shows is what it was built from.
 pub built-reads-back : (p : Parts) (have : ℕ) (b rest : List ℕ) → Typed (p .block) → buildOf p have ≡ given b
-    → (parseOf (b ++ rest) ≡ given (placesOf p (length b))) × (partsFrom b (placesOf p (length b)) ≡ p)
+    → (parseOf (b ++ rest) ≡ given (builtFields p (length b))) × (partsFrom b (builtFields p (length b)) ≡ p)
 built-reads-back p have b rest ty e =
     let w = holds-given (Whole p have) (buildOf p have) b (whole p have) e in
-    (built-reads p have b rest ty e, ap (λ (z : List ℕ). partsFrom z (placesOf p (length b))) (w .bytes) ∙ contents p (w .n) (w .tests .macs))
+    (built-reads p have b rest ty e, ap (λ (z : List ℕ). partsFrom z (builtFields p (length b))) (w .bytes) ∙ contents p (w .n) (w .tests .macs))

@@ -19,11 +19,11 @@ use Rattle.laws.specs.Bytes.{Bytes}
 use Rattle.laws.proofs.ByteLists.{bytes-take}
 use Rattle.laws.proofs.Answers.{Holds, holds-refuse, holds-choose, holds-then, holds-mono, holds-given}
 use Rattle.laws.proofs.Lists.{part-length}
-use Rattle.laws.proofs.Listed.{listed}
+use Rattle.laws.proofs.Listed.{front-listed}
 use Rattle.packet_parse.specs.Trailer.{crcGot, trailerOf}
 use Rattle.packet_parse.specs.Frame.{Head, Fields, BlockAt, BlockAt.noBlock, BlockAt.blockAt, MacAt, MacAt.noMac, MacAt.macFrom, macAt, lenOf, headOf, fieldsOf, partsOf, frameOf, parseOf}
 use Rattle.packet_build.specs.Build as made
-use Rattle.packet_build.specs.Build.{Parts, Block, Block.scb, blockBytes, headBytes, tailBytes, bytesOf, signedBytes, bodyBytes, buildOf, totalN}
+use Rattle.packet_build.specs.Build.{Parts, FrameBlock, FrameBlock.noScb, FrameBlock.scb, blockBytes, headBytes, tailBytes, frameBytes, signedBytes, bodyBytes, buildOf, totalN}
 use Rattle.packet_build.proofs.Sizes.{passes, bytesN-is}
 
 -- ---- the control byte
@@ -65,9 +65,9 @@ trailer-there f false b h =
 -- ---- the bytes
 
 -- the parts that stand at the places of F in f
-abbrev pub blockFrom : BlockAt → List ℕ → Block
-blockFrom noBlock f = Block.noBlock
-blockFrom (blockAt ty start n) f = scb ty (take n (drop start f))
+abbrev pub frameBlockFrom : BlockAt → List ℕ → FrameBlock
+frameBlockFrom noBlock f = noScb
+frameBlockFrom (blockAt ty start n) f = scb ty (take n (drop start f))
 
 abbrev pub macBytesFrom : MacAt → List ℕ → List ℕ
 macBytesFrom noMac f = []
@@ -78,7 +78,7 @@ partsFrom f F =
     record {
       addr = F .addr;
       ctrl = F .ctrl;
-      block = blockFrom (F .block) f;
+      block = frameBlockFrom (F .block) f;
       code = F .code;
       «data» = take (F .dataLen) (drop (F .dataStart) f);
       mac = macBytesFrom (F .mac) f;
@@ -98,16 +98,16 @@ head-there : (f : List ℕ) (a : ℕ) (c : Control) → Headed f a c → headByt
 head-there f a c h =
     let lo : length f % 256 ≡ getD f 2 0 = omega (arith, h .len, h .bytes 2) in
     let hi : length f / 256 ≡ getD f 3 0 = omega (arith, h .len, h .bytes 2) in
-    rw (← h .som, ← h .addr, lo, hi, h .ctrl) (listed f 5 (h .enough))
+    rw (← h .som, ← h .addr, lo, hi, h .ctrl) (front-listed f 5 (h .enough))
 
 -- ---- from the code on
 
 record Placed (f : List ℕ) (a : ℕ) (c : Control) (k : BlockAt) (at : ℕ) (mac : Bool) : Type 0 where
-  front : headBytes a c (length f) ++ blockBytes (blockFrom k f) ≡ take at f
-  size : 5 + length (blockBytes (blockFrom k f)) ≡ at
-  flag : made.present (blockFrom k f) ≡ c .2
-  due : made.due (blockFrom k f) ≡ mac
-  small : made.blockN (blockFrom k f) ≤ 253
+  front : headBytes a c (length f) ++ blockBytes (frameBlockFrom k f) ≡ take at f
+  size : 5 + length (blockBytes (frameBlockFrom k f)) ≡ at
+  flag : made.present (frameBlockFrom k f) ≡ c .2
+  due : made.due (frameBlockFrom k f) ≡ mac
+  small : made.blockN (frameBlockFrom k f) ≤ 253
 
 -- the data's length, and where it ends
 abbrev dataN : List ℕ → ℕ → Bool → Bool → ℕ
@@ -142,12 +142,12 @@ signed-there f a c k at mac x p h =
 abbrev Again : List ℕ → Fields → Type 0
 Again f F = (F .len ≡ length f) × ((have : ℕ) → length f ≤ have → buildOf (partsFrom f F) have ≡ given f)
 
-again : (f : List ℕ) (a : ℕ) (c : Control) (k : BlockAt) (at : ℕ) (mac : Bool) (x : Tail) → Headed f a c → Placed f a c k at mac → at + 1 + macLen mac + trailerLen (c .1) ≤ length f
+built-again : (f : List ℕ) (a : ℕ) (c : Control) (k : BlockAt) (at : ℕ) (mac : Bool) (x : Tail) → Headed f a c → Placed f a c k at mac → at + 1 + macLen mac + trailerLen (c .1) ≤ length f
     → tailBytes (c .1) (take (length f - trailerLen (c .1)) f) ≡ drop (length f - trailerLen (c .1)) f
     → (have : ℕ) → length f ≤ have → buildOf (partsFrom f (fieldsOf f a c k at mac x)) have ≡ given f
-unfolding buildOf andThen bytesOf
-again f a c k at mac x h p l t have room =
-    let b = blockFrom k f in
+unfolding buildOf andThen frameBytes
+built-again f a c k at mac x h p l t have room =
+    let b = frameBlockFrom k f in
     let n = dataN f at mac (c .1) in
     let m = macBytesFrom (macAt mac (length f - (macLen mac + trailerLen (c .1)))) f in
     let ld : length (take n (drop (at + 1) f)) ≡ n = part-length f (at + 1) n (omega arith) in
@@ -164,7 +164,7 @@ unfolding partsOf
 parts-there f a c k at mac h p =
     holds-refuse _ _ _ _ _ (λ _. holds-refuse _ _ _ _ _ (λ l. holds-then _ _ _ (λ x e. (
       refl,
-      again f a c k at mac x h p (ltb-false _ _ l)
+      built-again f a c k at mac x h p (ltb-false _ _ l)
           (holds-given (λ y. tailBytes (c .1) (take (length f - trailerLen (c .1)) f) ≡ drop (length f - trailerLen (c .1)) f) (trailerOf f (c .1)) x (trailer-there f (c .1) (h .bytes) (omega (arith, h .enough))) e),
     ))))
 
@@ -200,7 +200,7 @@ placed-block f a c b h e k =
       front =
           ap₂ (λ (x y : List ℕ). x ++ y) (head-there f a c h)
           (ap₂ (λ (x y : ℕ). x ∷ y ∷ take (b .1) (drop 7 f)) z (k .type)
-          ∙ ap (λ (y : List ℕ). y ++ take (b .1) (drop 7 f)) (listed (drop 5 f) 2 (k .two)))
+          ∙ ap (λ (y : List ℕ). y ++ take (b .1) (drop 7 f)) (front-listed (drop 5 f) 2 (k .two)))
           ∙ sym (append-assoc (take 5 f) (take 2 (drop 5 f)) (take (b .1) (drop 7 f)))
           ∙ ap (λ (y : List ℕ). y ++ take (b .1) (drop 7 f)) (sym (take-add 5 2 f)) ∙ sym (take-add 7 (b .1) f);
       size = omega arith;
@@ -222,14 +222,14 @@ frame-there f a c hd =
 -- ---- the first LEN bytes
 
 -- what the five bytes that were read say of them
-record Said (s : List ℕ) (h : Head) : Type 0 where
+record HeadSaid (s : List ℕ) (h : Head) : Type 0 where
   som : getD s 0 0 ≡ 0x53
   addr : getD s 1 0 ≡ h .addr
   len : lenOf s ≡ h .len
   ctrl : ctrlByte (h .ctrl) ≡ getD s 4 0
   sqn : h .ctrl .0 ≤ 3
 
-head-said : (s : List ℕ) → Holds (Said s) (headOf s)
+head-said : (s : List ℕ) → Holds (HeadSaid s) (headOf s)
 unfolding headOf
 head-said s =
     holds-refuse _ _ _ _ _ (λ _. holds-refuse _ _ _ _ _ (λ m. holds-then _ _ _ (λ c e.
@@ -240,7 +240,7 @@ headed : (s : List ℕ) (h : Head) → Bytes s → headOf s ≡ given h → h .l
 headed s h b e l k =
     let n = h .len in
     let ln : length (take n s) ≡ n = length-take-le n s l in
-    let g = holds-given (Said s) (headOf s) h (head-said s) e in
+    let g = holds-given (HeadSaid s) (headOf s) h (head-said s) e in
     record {
       som = getD-take n s 0 0 (omega arith) ∙ g .som;
       addr = getD-take n s 1 0 (omega arith) ∙ g .addr;

@@ -10,14 +10,14 @@ use Rattle.laws.specs.Over.{write}
 use Rattle.laws.proofs.Answers.{then-given, then-refused}
 use Rattle.laws.proofs.Overwrite.{write-write, take-write}
 use Rattle.packet_head.specs.Trailer.{trailerLen}
-use Rattle.packet_build.specs.Build.{Parts, blockBytes, bodyBytes, signedBytes, tailBytes, bytesOf, buildOf, bodyOf}
+use Rattle.packet_build.specs.Build.{Parts, blockBytes, bodyBytes, signedBytes, tailBytes, frameBytes, buildOf, bodyOf}
 use Rattle.packet_build.specs.Tested.{partsTest}
 use Rattle.packet_build.proofs.Sizes.{FineParts, bytesN-is, body-length, signed-length, tail-length}
 
 -- ---- the answers
 
 pub build-given : (p : Parts) (have n : ℕ) → partsTest (p .ctrl) (p .block) (length (p .mac)) (length (p .«data»)) have ≡ given n
-    → buildOf p have ≡ given (bytesOf p n)
+    → buildOf p have ≡ given (frameBytes p n)
 unfolding buildOf
 build-given p have n e = then-given _ n _ e
 
@@ -53,8 +53,8 @@ module _ (p : Parts) (o : List ℕ) (total : ℕ) (f : FineParts p (length (p .m
 
   pub frame-written : (o₂ o₃ : List ℕ) (n m : ℕ) → n ≡ 6 + length (blockBytes (p .block)) + length (p .«data») → m ≡ n + length (p .mac)
       → o₂ ≡ write o 0 (signedBytes p total) → o₃ ≡ write o₂ m (tailBytes (p .ctrl .1) (take m o₂))
-      → o₃ ≡ write o 0 (bytesOf p total)
-  unfolding bytesOf
+      → o₃ ≡ write o 0 (frameBytes p total)
+  unfolding frameBytes
   frame-written o₂ o₃ n m e₁ e₂ w₂ w₃ =
       let signed = signedBytes p total in
       let l = signed-length p total in

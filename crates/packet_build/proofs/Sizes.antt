@@ -11,20 +11,20 @@ use Rattle.laws.specs.Answer.{Answer.given, refuseIf}
 use Rattle.laws.proofs.Answers.{Holds, holds-refuse, holds-then, holds-given}
 use Rattle.packet_head.specs.Header.{Control}
 use Rattle.packet_head.specs.Trailer.{trailerLen, macLen}
-use Rattle.packet_build.specs.Build.{Block, Block.noBlock, Block.scb, Parts, present, due, blockN, blockBytes, bodyBytes, signedBytes, tailBytes, bytesOf, differ, testOf, totalN, buildOf}
+use Rattle.packet_build.specs.Build.{FrameBlock, FrameBlock.noScb, FrameBlock.scb, Parts, present, due, blockN, blockBytes, bodyBytes, signedBytes, tailBytes, frameBytes, differ, testOf, totalN, buildOf}
 use Rattle.packet_build.specs.Tested.{partsTest}
 
 -- ---- lengths
 
-pub bytesN-is : (b : Block) → length (blockBytes b) ≡ cond (present b) 2 0 + blockN b
-bytesN-is noBlock = refl
+pub bytesN-is : (b : FrameBlock) → length (blockBytes b) ≡ cond (present b) 2 0 + blockN b
+bytesN-is noScb = refl
 bytesN-is (scb ty l) = omega arith
 
 pub tail-length : (t : Bool) (l : List ℕ) → length (tailBytes t l) ≡ trailerLen t
 tail-length true l = refl
 tail-length false l = refl
 
-pub body-length : (a : ℕ) (c : Control) (b : Block) (k : ℕ) (d : List ℕ) (n : ℕ) → length (bodyBytes a c b k d n) ≡ 6 + length (blockBytes b) + length d
+pub body-length : (a : ℕ) (c : Control) (b : FrameBlock) (k : ℕ) (d : List ℕ) (n : ℕ) → length (bodyBytes a c b k d n) ≡ 6 + length (blockBytes b) + length d
 unfolding bodyBytes
 body-length a c b k d n = simp length-append (omega arith)
 
@@ -33,19 +33,19 @@ signed-length p n =
     let body = bodyBytes (p .addr) (p .ctrl) (p .block) (p .code) (p .«data») n in
     omega (arith, length-append body (p .mac), body-length (p .addr) (p .ctrl) (p .block) (p .code) (p .«data») n)
 
-pub bytes-length : (p : Parts) (n : ℕ) → length (bytesOf p n) ≡ 6 + length (blockBytes (p .block)) + length (p .«data») + length (p .mac) + trailerLen (p .ctrl .1)
-unfolding bytesOf
+pub bytes-length : (p : Parts) (n : ℕ) → length (frameBytes p n) ≡ 6 + length (blockBytes (p .block)) + length (p .«data») + length (p .mac) + trailerLen (p .ctrl .1)
+unfolding frameBytes
 bytes-length p n =
     length-append (signedBytes p n) (tailBytes (p .ctrl .1) (signedBytes p n))
     ∙ omega (arith, signed-length p n, tail-length (p .ctrl .1) (signedBytes p n))
 
 -- ---- what holds once every test has passed
 
-same : (a b : Bool) → differ a b ≡ false → a ≡ b
-same true true e = refl
-same true false e = e
-same false true e = sym e
-same false false e = refl
+differ-false : (a b : Bool) → differ a b ≡ false → a ≡ b
+differ-false true true e = refl
+differ-false true false e = e
+differ-false false true e = sym e
+differ-false false false e = refl
 
 pub record Fine (c : Control) (there d : Bool) (mac block dat have n : ℕ) : Type 0 where
   pub sqn : c .0 ≤ 3
@@ -63,7 +63,7 @@ fine c there d mac block dat have =
     holds-refuse _ _ _ _ _ (λ s. holds-refuse _ _ _ _ _ (λ m. holds-refuse _ _ _ _ _ (λ r.
     record {
       sqn = ltb-false _ _ q;
-      flag = same there (c .2) t;
+      flag = differ-false there (c .2) t;
       macs = eqb-true _ _ (not-false _ e);
       total = refl;
       most = ltb-false _ _ m;
@@ -95,7 +95,7 @@ fine-parts p mac have n e =
 -- of a frame that was built
 pub record Whole (p : Parts) (have : ℕ) (b : List ℕ) : Type 0 where
   pub n : ℕ
-  pub bytes : b ≡ bytesOf p n
+  pub bytes : b ≡ frameBytes p n
   pub tests : FineParts p (length (p .mac)) have n
 
 pub whole : (p : Parts) (have : ℕ) → Holds (Whole p have) (buildOf p have)
@@ -103,5 +103,5 @@ unfolding buildOf
 whole p have = holds-then _ _ _ (λ n e. record { n = n; bytes = refl; tests = fine-parts p (length (p .mac)) have n e })
 
 -- LEN counts all
-pub whole-length : (p : Parts) (have n : ℕ) → FineParts p (length (p .mac)) have n → length (bytesOf p n) ≡ n
+pub whole-length : (p : Parts) (have n : ℕ) → FineParts p (length (p .mac)) have n → length (frameBytes p n) ≡ n
 whole-length p have n f = omega (arith, f .total, bytes-length p n, bytesN-is (p .block))

@@ -2,14 +2,14 @@
 -- Assumes nothing.
 use mathlib.Core.Path.{_≡_, sym, ap, _∙_}
 use mathlib.Core.Bool.{Bool, true, false}
-use mathlib.Core.List.{List, [], _∷_}
+use mathlib.Core.List.{[], _∷_}
 use Prim.Native.Nat.{ℕ, _≤_, _<_}
 use native.Mathlib.Omega.{arith}
 use native.Mathlib.Decide.{decLt}
 use borrow.Author.Tests.{le-ltb, lt-ltb, eq-eqb, ne-eqb}
 use Rattle.laws.specs.Answer.{Answer, Answer.given, Answer.refused, refuseIf, andThen}
-use Rattle.laws.proofs.Answers.{given-inj}
-use Rattle.refusal.specs.Paper.{refusalOf, numberOf, valuesOf}
+use Rattle.laws.proofs.Answers.{given-inj, given-refused}
+use Rattle.refusal.specs.Paper.{refusalOf}
 use Rattle.refusal.specs.declared.Refusal.{Refusal}
 use Rattle.packet_head.specs.Header.{Control, ctrlByte, encodeOf}
 use Rattle.packet_head.specs.Trailer.{macLen}
@@ -26,12 +26,9 @@ pub encode-over : (c : Control) → 3 < c .0 → encodeOf c ≡ refused 10 (c .0
 unfolding encodeOf refuseIf
 encode-over c h = rw (lt-ltb _ _ h)
 
-never : {A : Type 0} (a : A) (n : ℕ) (vs : List ℕ) → given a ≡ refused n vs → ⊥
-never a n vs e = let z : _≡_ {A = ℕ} 0 1 = cc in omega arith
-
 pub encoded-sqn : (c : Control) (b : ℕ) → given b ≡ encodeOf c → c .0 ≤ 3
 encoded-sqn c b e = elim (decLt 3 (c .0)) [
-  | yes h ↦ absurd (never b 10 (c .0 ∷ []) (e ∙ encode-over c h))
+  | yes h ↦ absurd (given-refused (e ∙ encode-over c h))
   | no n ↦ omega arith
 ]
 
@@ -44,7 +41,7 @@ pub encode-refused : (c : Control) (there due : Bool) (mac block dat have : ℕ)
 unfolding testOf refuseIf withCtrl andThen
 encode-refused c there due mac block dat have e h = elim (decLt 3 (c .0)) [
   | yes l ↦ let k = h ∙ encode-over c l in rw (lt-ltb _ _ l) (cc)
-  | no n ↦ absurd (never (ctrlByte c) (numberOf e) (valuesOf e) (sym (h ∙ encode-fine c (omega arith))))
+  | no n ↦ absurd (given-refused (sym (h ∙ encode-fine c (omega arith))))
 ]
 
 -- ---- the others, in their order, once the control byte is b
@@ -73,11 +70,11 @@ module _ (c : Control) (there due : Bool) (mac block dat have b : ℕ) (e : give
   unfolding testOf refuseIf withCtrl andThen
   refused-18 d m s h r = rw (le-ltb _ _ (encoded-sqn c b e), d, eq-eqb _ _ m, le-ltb _ _ s, le-ltb _ _ h, lt-ltb _ _ r)
 
-  pub passed : differ there (c .2) ≡ false → mac ≡ macLen due → block ≤ 253 → totalN (c .1) there mac block dat ≤ 65535
+  pub all-passed : differ there (c .2) ≡ false → mac ≡ macLen due → block ≤ 253 → totalN (c .1) there mac block dat ≤ 65535
       → totalN (c .1) there mac block dat ≤ have
       → given (totalN (c .1) there mac block dat, b) ≡ withCtrl c (testOf c there due mac block dat have)
   unfolding testOf refuseIf withCtrl andThen
-  passed d m s h r = rw (le-ltb _ _ (encoded-sqn c b e), d, eq-eqb _ _ m, le-ltb _ _ s, le-ltb _ _ h, le-ltb _ _ r, encoded-byte c b e)
+  all-passed d m s h r = rw (le-ltb _ _ (encoded-sqn c b e), d, eq-eqb _ _ m, le-ltb _ _ s, le-ltb _ _ h, le-ltb _ _ r, encoded-byte c b e)
 
 -- ---- what the tests hand on
 
@@ -86,9 +83,9 @@ unfolding withCtrl andThen
 with-given c (given m) n b e =
     let k = given-inj (n, b) (m, ctrlByte c) e in
     (ap given (sym (ap (λ (x : ℕ × ℕ). x .0) k)), ap (λ (x : ℕ × ℕ). x .1) k)
-with-given c (refused m vs) n b e = absurd (never (n, b) m vs e)
+with-given c (refused m vs) n b e = absurd (given-refused e)
 
 pub with-refused : (c : Control) (a : Answer ℕ) (e : Refusal) → refusalOf e ≡ withCtrl c a → a ≡ refusalOf e
 unfolding withCtrl andThen
-with-refused c (given m) e h = absurd (never (m, ctrlByte c) (numberOf e) (valuesOf e) (sym h))
+with-refused c (given m) e h = absurd (given-refused (sym h))
 with-refused c (refused m vs) e h = cc

@@ -5,7 +5,7 @@ use mathlib.Core.List.{List, _++_}
 use Prim.Native.Nat.{ℕ}
 use lib.ListN.{length}
 use Rattle.laws.specs.Answer.{Answer, Answer.given, Answer.refused, andThen}
-use Rattle.packet_build.specs.Build.{Parts, bodyBytes, tailBytes, bytesOf, buildOf, bodyOf}
+use Rattle.packet_build.specs.Build.{Parts, bodyBytes, tailBytes, frameBytes, buildOf, bodyOf}
 use Rattle.packet_build.specs.Tested.{partsTest}
 
 -- the parts, with this MAC
@@ -18,14 +18,14 @@ completed p m (given b) = given (b ++ m ++ tailBytes (p .ctrl .1) (b ++ m))
 completed p m (refused n vs) = refused n vs
 
 then-completed : (p : Parts) (m : List ℕ) (a : Answer ℕ)
-    → andThen a (λ n. given (bytesOf (withMac p m) n))
+    → andThen a (λ n. given (frameBytes (withMac p m) n))
     ≡ completed p m (andThen a (λ n. given (bodyBytes (p .addr) (p .ctrl) (p .block) (p .code) (p .«data») n)))
-unfolding andThen bytesOf
+unfolding andThen frameBytes
 then-completed p m (given n) = refl
 then-completed p m (refused n vs) = refl
 
 pub two-calls : (p : Parts) (have : ℕ) (m : List ℕ) → length m ≡ 4 → buildOf (withMac p m) have ≡ completed p m (bodyOf p have)
 unfolding buildOf bodyOf
 two-calls p have m h =
-    ap (λ (k : ℕ). andThen (partsTest (p .ctrl) (p .block) k (length (p .«data»)) have) (λ n. given (bytesOf (withMac p m) n))) h
+    ap (λ (k : ℕ). andThen (partsTest (p .ctrl) (p .block) k (length (p .«data»)) have) (λ n. given (frameBytes (withMac p m) n))) h
     ∙ then-completed p m (partsTest (p .ctrl) (p .block) 4 (length (p .«data»)) have)

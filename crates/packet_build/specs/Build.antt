@@ -20,31 +20,31 @@ use Rattle.packet_build.specs.declared.codec.Built.{Built}
 
 -- ---- what a frame is made of
 
-pub data Block : Type 0 where
-  noBlock : Block
-  scb : (type : ℕ) → List ℕ → Block
+pub data FrameBlock : Type 0 where
+  noScb : FrameBlock
+  scb : (type : ℕ) → List ℕ → FrameBlock
 
 -- the MAC is four bytes, or none
 pub record Parts : Type 0 where
   pub addr : ℕ
   pub ctrl : Control
-  pub block : Block
+  pub block : FrameBlock
   pub code : ℕ
   pub «data» : List ℕ
   pub mac : List ℕ
 
-abbrev pub present : Block → Bool
-present noBlock = false
+abbrev pub present : FrameBlock → Bool
+present noScb = false
 present (scb ty l) = true
 
 -- whether a MAC is due
-abbrev pub due : Block → Bool
-due noBlock = false
+abbrev pub due : FrameBlock → Bool
+due noScb = false
 due (scb ty l) = hasMac ty
 
 -- how much data the block has
-abbrev pub blockN : Block → ℕ
-blockN noBlock = 0
+abbrev pub blockN : FrameBlock → ℕ
+blockN noScb = 0
 blockN (scb ty l) = length l
 
 -- ---- the tests
@@ -70,8 +70,8 @@ testOf c there due mac block dat have =
 
 -- ---- the bytes
 
-abbrev pub blockBytes : Block → List ℕ
-blockBytes noBlock = []
+abbrev pub blockBytes : FrameBlock → List ℕ
+blockBytes noScb = []
 blockBytes (scb ty l) = (length l + 2) ∷ ty ∷ l
 
 -- 53, the address, LEN low and high, CTRL
@@ -79,7 +79,7 @@ abbrev pub headBytes : ℕ → Control → ℕ → List ℕ
 headBytes addr ctrl total = 0x53 ∷ addr ∷ total % 256 ∷ total / 256 ∷ ctrlByte ctrl ∷ []
 
 -- from 53 to the end of data, in a frame of total bytes
-unfoldable pub bodyBytes : ℕ → Control → Block → ℕ → List ℕ → ℕ → List ℕ
+unfoldable pub bodyBytes : ℕ → Control → FrameBlock → ℕ → List ℕ → ℕ → List ℕ
 bodyBytes addr ctrl b code dat total = headBytes addr ctrl total ++ blockBytes b ++ (code ∷ []) ++ dat
 
 -- the trailer of what stands before it; of a CRC the low byte first
@@ -92,15 +92,15 @@ abbrev pub signedBytes : Parts → ℕ → List ℕ
 signedBytes p total = bodyBytes (p .addr) (p .ctrl) (p .block) (p .code) (p .«data») total ++ p .mac
 
 -- the whole frame of total bytes
-unfoldable pub bytesOf : Parts → ℕ → List ℕ
-bytesOf p total = signedBytes p total ++ tailBytes (p .ctrl .1) (signedBytes p total)
+unfoldable pub frameBytes : Parts → ℕ → List ℕ
+frameBytes p total = signedBytes p total ++ tailBytes (p .ctrl .1) (signedBytes p total)
 
 -- ---- the two calls, into a buffer of `have` bytes
 
 unfoldable pub buildOf : Parts → ℕ → Answer (List ℕ)
 buildOf p have =
     andThen (testOf (p .ctrl) (present (p .block)) (due (p .block)) (length (p .mac)) (blockN (p .block)) (length (p .«data»)) have)
-    (λ total. given (bytesOf p total))
+    (λ total. given (frameBytes p total))
 
 -- the first of two calls, where the MAC is not yet known: tested as building with four bytes of MAC; from 53 to the end of data
 unfoldable pub bodyOf : Parts → ℕ → Answer (List ℕ)
@@ -120,17 +120,17 @@ written (refused n vs) o = o
 
 -- ---- the code's kinds, as the paper has them; data beside an absent block is no part of the packet
 
-abbrev pub blockOf : BuildBlock → List ℕ → Block
-blockOf BuildBlock.Absent l = noBlock
-blockOf (BuildBlock.Of ty) l = scb (typeOf ty) l
+abbrev pub scbGiven : BuildBlock → List ℕ → FrameBlock
+scbGiven BuildBlock.Absent l = noScb
+scbGiven (BuildBlock.Of ty) l = scb (typeOf ty) l
 
 abbrev pub macBytes : GivenMac → List ℕ
 macBytes GivenMac.Absent = []
 macBytes (GivenMac.Is a b c d) = a ∷ b ∷ c ∷ d ∷ []
 
-abbrev pub partsOf : PacketBuilder → List ℕ → List ℕ → GivenMac → Parts
-partsOf w l d m =
-    record { addr = w .addr .0; ctrl = control (w .ctrl); block = blockOf (w .block) l; code = w .code; «data» = d; mac = macBytes m }
+abbrev pub partsGiven : PacketBuilder → List ℕ → List ℕ → GivenMac → Parts
+partsGiven w l d m =
+    record { addr = w .addr .0; ctrl = control (w .ctrl); block = scbGiven (w .block) l; code = w .code; «data» = d; mac = macBytes m }
 
 abbrev pub built : Built → Answer ℕ
 built (Built.Done n) = given n

@@ -2,7 +2,7 @@
 ghost use mathlib.Core.Path.{_≡_};
 ghost use Prim.Native.Nat.{_≤_};
 ghost use lib.ListN.{length};
-ghost use Rattle.packet_build.specs.Build.{macBytes, partsOf, buildOf, bodyOf, built, sized, written};
+ghost use Rattle.packet_build.specs.Build.{macBytes, partsGiven, buildOf, bodyOf, built, sized, written};
 use super::put::put_body;
 use super::put::put_mac;
 use super::put::put_tail;
@@ -64,8 +64,8 @@ pub enum Built {
 
 // Writes the frame into out, or refuses and leaves out as it is. Where w has no block, the bytes in block are not looked at.
 pub fn build(w: PacketBuilder, block: &[u8], data: &[u8], mac: GivenMac, out: &mut [u8]) -> Built
-    ensures { λ r. ⌜ built r ≡ sized (buildOf (partsOf w (now (block .entry)) (now («data» .entry)) mac) (length (now (out .entry)))) ⌝ }
-    ensures { λ _. ⌜ now (out .exit) ≡ written (buildOf (partsOf w (now (block .entry)) (now («data» .entry)) mac) (length (now (out .entry)))) (now (out .entry)) ⌝ }
+    ensures { λ r. ⌜ built r ≡ sized (buildOf (partsGiven w (now (block .entry)) (now («data» .entry)) mac) (length (now (out .entry)))) ⌝ }
+    ensures { λ _. ⌜ now (out .exit) ≡ written (buildOf (partsGiven w (now (block .entry)) (now («data» .entry)) mac) (length (now (out .entry)))) (now (out .entry)) ⌝ }
 {
     match test_parts(w, block, data, mac.size(), out.len()) {
         Tested::Total(total, ctrl) => {
@@ -80,8 +80,8 @@ pub fn build(w: PacketBuilder, block: &[u8], data: &[u8], mac: GivenMac, out: &m
 // The first of two calls, for a packet whose MAC is not known yet: it writes what the MAC is worked out over, from 53 to the
 // end of data, where the whole frame would have room. The second is build, given the MAC.
 pub fn build_body(w: PacketBuilder, block: &[u8], data: &[u8], out: &mut [u8]) -> Built
-    ensures { λ r. ⌜ built r ≡ sized (bodyOf (partsOf w (now (block .entry)) (now («data» .entry)) GivenMac.Absent) (length (now (out .entry)))) ⌝ }
-    ensures { λ _. ⌜ now (out .exit) ≡ written (bodyOf (partsOf w (now (block .entry)) (now («data» .entry)) GivenMac.Absent) (length (now (out .entry)))) (now (out .entry)) ⌝ }
+    ensures { λ r. ⌜ built r ≡ sized (bodyOf (partsGiven w (now (block .entry)) (now («data» .entry)) GivenMac.Absent) (length (now (out .entry)))) ⌝ }
+    ensures { λ _. ⌜ now (out .exit) ≡ written (bodyOf (partsGiven w (now (block .entry)) (now («data» .entry)) GivenMac.Absent) (length (now (out .entry)))) (now (out .entry)) ⌝ }
 {
     match test_parts(w, block, data, 4, out.len()) {
         Tested::Total(total, ctrl) => Built::Done(put_body(out, w, ctrl, block, data, total)),

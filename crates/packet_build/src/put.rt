@@ -5,7 +5,7 @@ ghost use lib.ListN.{length, take};
 ghost use Rattle.laws.specs.Over.{write};
 ghost use Rattle.packet_head.specs.Header.{control, ctrlByte};
 ghost use Rattle.packet_head.specs.Trailer.{trailerLen};
-ghost use Rattle.packet_build.specs.Build.{blockOf, blockN, blockBytes, bodyBytes, macBytes, tailBytes};
+ghost use Rattle.packet_build.specs.Build.{scbGiven, blockN, blockBytes, bodyBytes, macBytes, tailBytes};
 use super::codec::BuildBlock;
 use super::codec::GivenMac;
 use super::codec::PacketBuilder;
@@ -26,9 +26,9 @@ fn copy_in(out: &mut [u8], at: usize, src: &[u8]) -> usize
 
 // The block at 5, if there is one; the place after it.
 fn put_block(out: &mut [u8], block: BuildBlock, bytes: &[u8]) -> usize
-    requires { ⌜ (blockN (blockOf block (now bytes)) ≤ 253) × (5 + length (blockBytes (blockOf block (now bytes))) ≤ length (now out)) ⌝ }
-    ensures { λ r. ⌜ r ≡ 5 + length (blockBytes (blockOf block (now (bytes .entry)))) ⌝ }
-    ensures { λ _. ⌜ now (out .exit) ≡ write (now (out .entry)) 5 (blockBytes (blockOf block (now (bytes .entry)))) ⌝ }
+    requires { ⌜ (blockN (scbGiven block (now bytes)) ≤ 253) × (5 + length (blockBytes (scbGiven block (now bytes))) ≤ length (now out)) ⌝ }
+    ensures { λ r. ⌜ r ≡ 5 + length (blockBytes (scbGiven block (now (bytes .entry)))) ⌝ }
+    ensures { λ _. ⌜ now (out .exit) ≡ write (now (out .entry)) 5 (blockBytes (scbGiven block (now (bytes .entry)))) ⌝ }
 {
     match block {
         BuildBlock::Absent => 5,
@@ -49,9 +49,9 @@ pub(crate) fn put_body(
     data: &[u8],
     total: usize,
 ) -> usize
-    requires { ⌜ (ctrl ≡ ctrlByte (control (w .ctrl))) × (blockN (blockOf (w .block) (now bytes)) ≤ 253) × (total < 65536) × (6 + length (blockBytes (blockOf (w .block) (now bytes))) + length (now «data») ≤ length (now out)) ⌝ }
-    ensures { λ r. ⌜ r ≡ 6 + length (blockBytes (blockOf (w .block) (now (bytes .entry)))) + length (now («data» .entry)) ⌝ }
-    ensures { λ _. ⌜ now (out .exit) ≡ write (now (out .entry)) 0 (bodyBytes (w .addr .0) (control (w .ctrl)) (blockOf (w .block) (now (bytes .entry))) (w .code) (now («data» .entry)) total) ⌝ }
+    requires { ⌜ (ctrl ≡ ctrlByte (control (w .ctrl))) × (blockN (scbGiven (w .block) (now bytes)) ≤ 253) × (total < 65536) × (6 + length (blockBytes (scbGiven (w .block) (now bytes))) + length (now «data») ≤ length (now out)) ⌝ }
+    ensures { λ r. ⌜ r ≡ 6 + length (blockBytes (scbGiven (w .block) (now (bytes .entry)))) + length (now («data» .entry)) ⌝ }
+    ensures { λ _. ⌜ now (out .exit) ≡ write (now (out .entry)) 0 (bodyBytes (w .addr .0) (control (w .ctrl)) (scbGiven (w .block) (now (bytes .entry))) (w .code) (now («data» .entry)) total) ⌝ }
 {
     let head = [
         0x53,

@@ -4,7 +4,7 @@ ghost use mathlib.Core.Bool.{cond};
 ghost use Prim.Native.Nat.{_≤_, _<_, _^_};
 ghost use lib.ListN.{length};
 ghost use Rattle.packet_head.specs.Header.{control};
-ghost use Rattle.packet_build.specs.Build.{blockOf, differ, testOf};
+ghost use Rattle.packet_build.specs.Build.{scbGiven, differ, testOf};
 ghost use Rattle.packet_build.specs.Tested.{tested, withCtrl, partsTest};
 use super::codec::BuildBlock;
 use super::codec::PacketBuilder;
@@ -80,7 +80,7 @@ pub(crate) fn test_parts(
     have: usize,
 ) -> Tested
     requires { ⌜ mac ≤ 4 ⌝ }
-    ensures { λ r. ⌜ tested r ≡ withCtrl (control (w .ctrl)) (partsTest (control (w .ctrl)) (blockOf (w .block) (now (block .entry))) mac (length (now («data» .entry))) have) ⌝ }
+    ensures { λ r. ⌜ tested r ≡ withCtrl (control (w .ctrl)) (partsTest (control (w .ctrl)) (scbGiven (w .block) (now (block .entry))) mac (length (now («data» .entry))) have) ⌝ }
 {
     let kind = w.block;
     match kind {

@@ -32,18 +32,18 @@ parts-due : (f : List ℕ) (a : ℕ) (c : Control) (b : BlockAt) (at : ℕ) → 
 unfolding partsOf
 parts-due f a c b at k = holds-refuse _ _ _ _ _ (λ _. holds-refuse _ _ _ _ _ (λ _. holds-then _ _ _ (λ t _. (k, there-at (hasMac (typeIn b)) _))))
 
-both : (x y : Bool) → not (x && y) ≡ false → (x ≡ true) × (y ≡ true)
-both true true e = (refl, refl)
-both true false e = (refl, cc)
-both false y e = (cc, cc)
+and-parts : (x y : Bool) → not (x && y) ≡ false → (x ≡ true) × (y ≡ true)
+and-parts true true e = (refl, refl)
+and-parts true false e = (refl, cc)
+and-parts false y e = (cc, cc)
 
 scs-known : (b : ℕ) → Holds (λ (ty : ℕ). (0x11 ≤ ty) × (ty ≤ 0x18)) (scsOf b)
 unfolding scsOf
-scs-known b = holds-refuse _ _ _ _ _ (λ k. let h = both (leb 0x11 b) (leb b 0x18) k in (leb-true 0x11 b (h .0), leb-true b 0x18 (h .1)))
+scs-known b = holds-refuse _ _ _ _ _ (λ k. let h = and-parts (leb 0x11 b) (leb b 0x18) k in (leb-true 0x11 b (h .0), leb-true b 0x18 (h .1)))
 
-type-known : (b : List ℕ) → Holds (λ (r : BlockRead). (0x11 ≤ r .0) × (r .0 ≤ 0x18)) (scbOf b)
+read-type-known : (b : List ℕ) → Holds (λ (r : BlockRead). (0x11 ≤ r .0) × (r .0 ≤ 0x18)) (scbOf b)
 unfolding scbOf
-type-known b =
+read-type-known b =
     holds-refuse _ _ _ _ _ (λ _. holds-refuse _ _ _ _ _ (λ _. holds-refuse _ _ _ _ _ (λ _.
     holds-then _ _ _ (λ ty e. holds-given _ (scsOf (getD b 1 0)) ty (scs-known (getD b 1 0)) e))))
 
@@ -51,7 +51,7 @@ frame-due : (f : List ℕ) (a : ℕ) (c : Control) → Holds Due (frameOf f a c)
 unfolding frameOf
 frame-due f a c =
     holds-refuse _ _ _ _ _ (λ _. holds-choose _ _ _ _
-    (λ _. holds-then _ _ _ (λ b e. parts-due f a c (blockAt (b .0) 7 (b .1)) (7 + b .1) (holds-given _ (scbOf (drop 5 f)) b (type-known (drop 5 f)) e)))
+    (λ _. holds-then _ _ _ (λ b e. parts-due f a c (blockAt (b .0) 7 (b .1)) (7 + b .1) (holds-given _ (scbOf (drop 5 f)) b (read-type-known (drop 5 f)) e)))
     (λ _. parts-due f a c noBlock 5 tt))
 
 parse-due : (s : List ℕ) → Holds Due (parseOf s)

@@ -37,10 +37,10 @@ one-more : (t : Bool) → 1 ≤ trailerLen t
 one-more true = omega arith
 one-more false = omega arith
 
-mac-inside : (mac : Bool) (n at t : ℕ) → 1 ≤ t → at + 1 + macLen mac + t ≤ n
+mac-within : (mac : Bool) (n at t : ℕ) → 1 ≤ t → at + 1 + macLen mac + t ≤ n
     → MacInside (macAt mac (n - (macLen mac + t))) (at + 1 + (n - (at + 1 + macLen mac + t))) n
-mac-inside true n at t h k = (omega arith, omega arith)
-mac-inside false n at t h k = omega arith
+mac-within true n at t h k = (omega arith, omega arith)
+mac-within false n at t h k = omega arith
 
 parts-inside : (f : List ℕ) (a : ℕ) (c : Control) (b : BlockAt) (at : ℕ) (mac : Bool) → 5 ≤ at → BlockInside b (at + 1) → Holds (Inside (length f)) (partsOf f a c b at mac)
 unfolding partsOf
@@ -55,7 +55,7 @@ parts-inside f a c b at mac h5 hb =
           most = omega arith;
           block = hb;
           «data» = omega arith;
-          mac = mac-inside mac (length f) at (trailerLen (c .1)) one k;
+          mac = mac-within mac (length f) at (trailerLen (c .1)) one k;
         }
 
 frame-inside : (f : List ℕ) (a : ℕ) (c : Control) → Holds (Inside (length f)) (frameOf f a c)

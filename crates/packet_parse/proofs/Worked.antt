@@ -14,8 +14,8 @@ use Rattle.packet_parse.specs.Trailer.{trailerOf}
 use Rattle.packet_parse.specs.Frame.{Fields, BlockAt, BlockAt.noBlock, BlockAt.blockAt, MacAt.noMac, headOf, partsOf, frameOf, parseOf}
 
 -- a frame for address 5 with SQN 0, code 60, no data and no MAC
-pub plain : Control → BlockAt → ℕ → Tail → ℕ → Answer Fields
-plain ctrl block from tail len =
+pub plainFrame : Control → BlockAt → ℕ → Tail → ℕ → Answer Fields
+plainFrame ctrl block from tail len =
     given (record {
       addr = 0x05;
       ctrl = ctrl;
@@ -47,9 +47,9 @@ frames =
 
 pub answers : List (Answer Fields)
 answers =
-    plain (0, true, false) noBlock 6 (crc 0x89BC) 8
+    plainFrame (0, true, false) noBlock 6 (crc 0x89BC) 8
     ∷ refused 1 (7 ∷ 8 ∷ [])
-    ∷ plain (0, false, false) noBlock 6 (checksum 0x41) 7
+    ∷ plainFrame (0, false, false) noBlock 6 (checksum 0x41) 7
     ∷ refused 8 (0x40 ∷ 0x41 ∷ [])
     ∷ refused 1 (0 ∷ 5 ∷ [])
     ∷ refused 4 (0 ∷ 0 ∷ [])
@@ -59,9 +59,9 @@ answers =
     ∷ refused 6 (0x19 ∷ [])
     ∷ refused 4 (9 ∷ 9 ∷ [])
     ∷ refused 4 (9 ∷ 9 ∷ [])
-    ∷ plain (0, false, true) (blockAt 0x11 7 0) 8 (checksum 0x24) 9
+    ∷ plainFrame (0, false, true) (blockAt 0x11 7 0) 8 (checksum 0x24) 9
     ∷ []
 
 pub worked : map parseOf frames ≡ answers
-unfolding plain frames answers refuseIf choose andThen headOf parseOf frameOf partsOf controlOf scbOf scsOf trailerOf crcFrom crcByte crcBits crcBit reduce checksumOf sumOf
+unfolding plainFrame frames answers refuseIf choose andThen headOf parseOf frameOf partsOf controlOf scbOf scsOf trailerOf crcFrom crcByte crcBits crcBit reduce checksumOf sumOf
 worked = refl

@@ -12,7 +12,7 @@ use lib.ListN.{length, getD, take, drop, take-append-drop, length-replicate}
 use lib.Seq.{take-suc}
 use Rattle.laws.specs.Bytes.{xorl, zeros}
 use Rattle.laws.proofs.Xor.{bit-ind, xor-assoc}
-use Rattle.packet_sums.specs.Crc.{polynomial, start, reduce, crcBit, crcBits, crcByte, crcFrom, crcOf}
+use Rattle.packet_sums.specs.Crc.{polynomial, crcStart, reduce, crcBit, crcBits, crcByte, crcFrom, crcOf}
 use Rattle.packet_sums.proofs.Linear.{Linear, linear-same, linear-after, xor-swap, xor-shl}
 
 -- ---- clauses
@@ -62,7 +62,7 @@ from-lt [] c h = h
 from-lt (b ∷ s) c h = from-lt s (crcByte c b) (byte-lt c b)
 
 pub crc-lt : (s : List ℕ) → crcOf s < 65536
-crc-lt s = from-lt s start (lit< tt)
+crc-lt s = from-lt s crcStart (lit< tt)
 
 -- ---- linearity
 

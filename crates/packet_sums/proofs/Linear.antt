@@ -13,7 +13,7 @@ use lib.Bits.{bitXor, xor-self, xor-shr, xor-mod, xor-block, xor-shifted}
 use lib.Dec.{T, eqb, eqb→eq}
 use lib.ListN.{getD}
 use Rattle.laws.specs.Table.{from}
-use Rattle.laws.proofs.Entries.{every, at}
+use Rattle.laws.proofs.Entries.{every, every-at}
 use Rattle.laws.proofs.Listed.{length-from, getD-from}
 use Rattle.laws.proofs.Xor.{xor-assoc, xor-left-comm}
 
@@ -80,10 +80,10 @@ top-digit P k low high x h = elim (decLt x (2 ^ k)) [
       subst P e (high (x - 2 ^ k) r)
 ]
 
-pub agree : {f g : ℕ → ℕ} → Linear f → Linear g → (k : ℕ) → ((i : ℕ) → i < k → f (2 ^ i) ≡ g (2 ^ i)) → (x : ℕ) → x < 2 ^ k → f x ≡ g x
-agree {f} {g} hf hg zero e x h = ap f (lt-one h) ∙ linear-zero hf ∙ sym (linear-zero hg) ∙ ap g (sym (lt-one h))
-agree {f} {g} hf hg (suc k) e x h =
-    let ih : (y : ℕ) → y < 2 ^ k → f y ≡ g y = agree hf hg k (λ i lt. e i (omega arith)) in
+pub linear-agree : {f g : ℕ → ℕ} → Linear f → Linear g → (k : ℕ) → ((i : ℕ) → i < k → f (2 ^ i) ≡ g (2 ^ i)) → (x : ℕ) → x < 2 ^ k → f x ≡ g x
+linear-agree {f} {g} hf hg zero e x h = ap f (lt-one h) ∙ linear-zero hf ∙ sym (linear-zero hg) ∙ ap g (sym (lt-one h))
+linear-agree {f} {g} hf hg (suc k) e x h =
+    let ih : (y : ℕ) → y < 2 ^ k → f y ≡ g y = linear-agree hf hg k (λ i lt. e i (omega arith)) in
     top-digit (λ y. f y ≡ g y) k ih
     (λ y lt. hf .apart (2 ^ k) y ∙ ap₂ bitXor (e k (omega arith)) (ih y lt) ∙ sym (hg .apart (2 ^ k) y)) x h
 
@@ -94,6 +94,6 @@ Tried f g k = T (every (λ i x. eqb (f x) (g x)) 0 (from (λ i. 2 ^ i) 0 k))
 pub agree-tried : {f g : ℕ → ℕ} → Linear f → Linear g → (k : ℕ) → Tried f g k → (x : ℕ) → x < 2 ^ k → f x ≡ g x
 agree-tried {f} {g} hf hg k t =
     let s = from (λ i. 2 ^ i) 0 k in
-    agree hf hg k
+    linear-agree hf hg k
     (λ i h. subst (λ (x : ℕ). f x ≡ g x) (getD-from (λ i. 2 ^ i) 0 k i h ∙ ap (λ (j : ℕ). 2 ^ j) (zero-add i))
-    (eqb→eq (f (getD s i 0)) (g (getD s i 0)) (at (λ i x. eqb (f x) (g x)) s t i (omega (arith, length-from (λ i. 2 ^ i) 0 k)))))
+    (eqb→eq (f (getD s i 0)) (g (getD s i 0)) (every-at (λ i x. eqb (f x) (g x)) s t i (omega (arith, length-from (λ i. 2 ^ i) 0 k)))))

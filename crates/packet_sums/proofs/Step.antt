@@ -11,30 +11,30 @@ use lib.Dec.{lit<}
 use lib.ListN.{length}
 use Rattle.laws.specs.Bytes.{Bytes, zeros}
 use Rattle.laws.proofs.ByteLists.{bytes-zeros}
-use Rattle.packet_sums.specs.Crc.{start, reduce, crcBit, crcBits, crcByte, crcFrom, crcOf}
+use Rattle.packet_sums.specs.Crc.{crcStart, reduce, crcBit, crcBits, crcByte, crcFrom, crcOf}
 use Rattle.packet_sums.specs.Word.{wordFrom, bytesOf, crcWord}
 use Rattle.packet_sums.proofs.Linear.{Linear, linear-same, linear-after, linear-xor, linear-shr, linear-shl, linear-mod, Power, linear-div, linear-times, Tried, agree-tried}
 use Rattle.packet_sums.proofs.CrcLaws.{byte-linear, crc-cons, crc-split}
 use Rattle.packet_sums.proofs.WordLaws.{crc-word-zero, crc-word-linear, crc-word-from, crc-word-two}
 
 -- a number and what it is after a shift down, one or several, together
-abbrev one : ℕ → ℕ → ℕ
-one p z = bitXor z (z / p)
+abbrev shiftedOnce : ℕ → ℕ → ℕ
+shiftedOnce p z = bitXor z (z / p)
 
-abbrev two : ℕ → ℕ → ℕ → ℕ
-two p q z = bitXor (one p z) (z / q)
+abbrev shiftedTwice : ℕ → ℕ → ℕ → ℕ
+shiftedTwice p q z = bitXor (shiftedOnce p z) (z / q)
 
-abbrev three : ℕ → ℕ → ℕ → ℕ → ℕ
-three p q r z = bitXor (two p q z) (z / r)
+abbrev shiftedThrice : ℕ → ℕ → ℕ → ℕ → ℕ
+shiftedThrice p q r z = bitXor (shiftedTwice p q z) (z / r)
 
-one-linear : (p : ℕ) → Power p → Linear (one p)
-one-linear p hp = linear-xor linear-same (linear-div linear-same p hp)
+once-linear : (p : ℕ) → Power p → Linear (shiftedOnce p)
+once-linear p hp = linear-xor linear-same (linear-div linear-same p hp)
 
-two-linear : (p q : ℕ) → Power p → Power q → Linear (two p q)
-two-linear p q hp hq = linear-xor (one-linear p hp) (linear-div linear-same q hq)
+twice-linear : (p q : ℕ) → Power p → Power q → Linear (shiftedTwice p q)
+twice-linear p q hp hq = linear-xor (once-linear p hp) (linear-div linear-same q hq)
 
-three-linear : (p q r : ℕ) → Power p → Power q → Power r → Linear (three p q r)
-three-linear p q r hp hq hr = linear-xor (two-linear p q hp hq) (linear-div linear-same r hr)
+thrice-linear : (p q r : ℕ) → Power p → Power q → Power r → Linear (shiftedThrice p q r)
+thrice-linear p q r hp hq hr = linear-xor (twice-linear p q hp hq) (linear-div linear-same r hr)
 
 -- ---- one byte: v is the value so far with the byte below it
 
@@ -46,7 +46,7 @@ crc-byte-linear = record {
 module _ (p m n : ℕ) where
   abbrev pub shiftByte : ℕ → ℕ → ℕ
   shiftByte c b =
-      let q = one p (bitXor (c / 256) b) in
+      let q = shiftedOnce p (bitXor (c / 256) b) in
       bitXor (bitXor (bitXor (c * 256 % 65536) (q * m % 65536)) (q * n % 65536)) q
 
   abbrev pub shifted : ℕ → ℕ
@@ -55,7 +55,7 @@ module _ (p m n : ℕ) where
   shift-byte-linear : Power p × Power m × Power n → Linear shifted
   shift-byte-linear h =
       let top = linear-shr linear-same 8 in
-      let q = linear-after (one-linear p (h .0)) (linear-xor (linear-shr top 8) (linear-mod linear-same 8)) in
+      let q = linear-after (once-linear p (h .0)) (linear-xor (linear-shr top 8) (linear-mod linear-same 8)) in
       linear-xor
       (linear-xor (linear-xor (linear-mod (linear-shl top 8) 16) (linear-mod (linear-times q m (h .1)) 16)) (linear-mod (linear-times q n (h .2)) 16)) q
 
@@ -79,7 +79,7 @@ spread-linear m n hm hn =
 
 module _ (a b c d e f g h i m n : ℕ) where
   abbrev pub shiftWord : ℕ → ℕ
-  shiftWord z = spread m n (one i (two g h (three d e f (three a b c z))))
+  shiftWord z = spread m n (shiftedOnce i (shiftedTwice g h (shiftedThrice d e f (shiftedThrice a b c z))))
 
   abbrev pub Powers : Type 0
   Powers = (Power a × Power b × Power c) × (Power d × Power e × Power f) × (Power g × Power h) × Power i × (Power m × Power n)
@@ -87,9 +87,9 @@ module _ (a b c d e f g h i m n : ℕ) where
   shift-word-linear : Powers → Linear shiftWord
   shift-word-linear p =
       linear-after (spread-linear m n (p .4 .0) (p .4 .1))
-      (linear-after (one-linear i (p .3))
-      (linear-after (two-linear g h (p .2 .0) (p .2 .1))
-      (linear-after (three-linear d e f (p .1 .0) (p .1 .1) (p .1 .2)) (three-linear a b c (p .0 .0) (p .0 .1) (p .0 .2)))))
+      (linear-after (once-linear i (p .3))
+      (linear-after (twice-linear g h (p .2 .0) (p .2 .1))
+      (linear-after (thrice-linear d e f (p .1 .0) (p .1 .1) (p .1 .2)) (thrice-linear a b c (p .0 .0) (p .0 .1) (p .0 .2)))))
 
   pub shift-word : Powers → Tried shiftWord (crcWord 8) 64 → (z : ℕ) → z < 2 ^ 64 → shiftWord z ≡ crcWord 8 z
   shift-word p t = agree-tried (shift-word-linear p) (crc-word-linear 8) 64 t
@@ -106,8 +106,8 @@ zeros-behind : (c : ℕ) → wordFrom c (zeros 6) ≡ c * 2 ^ 48
 unfolding wordFrom
 zeros-behind c = omega arith
 
-moved : (c : ℕ) → c < 65536 → crcWord 8 (c * 2 ^ 48) ≡ crcFrom c (zeros 8)
-moved c h =
+value-moved-up : (c : ℕ) → c < 65536 → crcWord 8 (c * 2 ^ 48) ≡ crcFrom c (zeros 8)
+value-moved-up c h =
     let z : List ℕ = zeros 6 in
     ap (crcWord 8) (sym (zeros-behind c)) ∙ crc-word-from z 2 c (bytes-zeros 6) ∙ ap (λ (x : ℕ). crcFrom x z) (on-top c h)
     ∙ sym (crc-cons c 0 (0 ∷ z) ∙ crc-cons (crcByte c 0) 0 z)
@@ -116,12 +116,12 @@ pub word-step : (c : ℕ) (s : List ℕ) → c < 65536 → Bytes s → length s 
 word-step c s h hb e =
     let small : c * 2 ^ 48 % 2 ^ 64 ≡ c * 2 ^ 48 = omega arith in
     ap (λ (x : ℕ). crcWord 8 (bitXor x (wordFrom 0 s))) small ∙ crc-word-linear 8 .apart (c * 2 ^ 48) (wordFrom 0 s)
-    ∙ ap₂ bitXor (moved c h ∙ ap (λ (n : ℕ). crcFrom c (zeros n)) (sym e))
+    ∙ ap₂ bitXor (value-moved-up c h ∙ ap (λ (n : ℕ). crcFrom c (zeros n)) (sym e))
     (ap (λ (n : ℕ). crcWord n (wordFrom 0 s)) (sym e ∙ sym (zero-add (length s))) ∙ crc-word-from s 0 0 hb ∙ ap (λ (x : ℕ). crcFrom x s) (crc-word-zero 0))
     ∙ sym (crc-split c s)
 
 -- the start is the CRC of FFFF from 0
-from-ffff : (n : ℕ) → crcWord (suc (suc n)) 0xFFFF ≡ start
+from-ffff : (n : ℕ) → crcWord (suc (suc n)) 0xFFFF ≡ crcStart
 unfolding crcByte crcBits crcBit reduce
 from-ffff n = crc-word-two n 0xFFFF (lit< tt)
 

@@ -9,8 +9,8 @@ use lib.Dec.{eqb}
 abbrev pub polynomial : ℕ
 polynomial = 0x1021
 
-abbrev pub start : ℕ
-start = 0x1D0F
+abbrev pub crcStart : ℕ
+crcStart = 0x1D0F
 
 -- the polynomial is added where a 1 fell out at the top
 unfoldable pub reduce : ℕ → ℕ → ℕ
@@ -35,7 +35,7 @@ crcFrom c [] = c
 crcFrom c (b ∷ bs) = crcFrom (crcByte c b) bs
 
 abbrev pub crcOf : List ℕ → ℕ
-crcOf s = crcFrom start s
+crcOf s = crcFrom crcStart s
 
 -- as it travels: two bytes, the low one first
 unfoldable pub lowFirst : ℕ → List ℕ

@@ -1,7 +1,7 @@
 -- The functions with plain parameters that answer a part of the frame that they are lent: one walk for all. Such a function makes the view by `parse`, holds it in a local, and passes it to a thin method.
 --     door k           the function's MIR, with the method's key k. A function's own `(door k)` is this by computation
 --     clauses D        its contract: the result is D of the frame's bytes
---     door-meets       where `parse` meets its contract and the method that of the numbers a and l, and the part there is D of the frame's bytes, the function meets `clauses D`
+--     door-meets       where `parse` meets its contract and the method that of the numbers a and l, and the part there is D of the frame's bytes, the function meets `viewClauses D`
 -- In a local of a body MIR erases the lifetime of the struct's type, so the view is shown to have the type at `erased`: what the struct owns does not say the lifetime's name.
 -- Assumes nothing.
 use mathlib.Core.Path.{_≡_, refl, _∙_}
@@ -40,7 +40,7 @@ use Rattle.packet_parse.specs.Frame.{parseOf}
 use Rattle.packet_view.specs.View.{placesOf, viewed, partOf}
 use Rattle.packet_view.specs.declared.view.PacketView.{PacketView}
 use Rattle.packet_view.proofs.Thin as thin
-use Rattle.packet_view.proofs.Thin.{Number, slice, B}
+use Rattle.packet_view.proofs.Thin.{Number, byteSlice, B}
 use Rattle.packet_view.proofs.view.PacketView as T
 use Rattle.packet_view.proofs.view.PacketView.Laws as T′
 use Rattle.packet_view.proofs.view.PacketView.parse as new
@@ -53,12 +53,12 @@ door k = record {
   lifetimes = 1;
   outlives = [];
   params = 1;
-  locals = local (slice (named 0)) valueLocal ∷ local (slice (named 0)) valueLocal ∷ local (T′.mir erased) valueLocal ∷ [];
+  locals = local (byteSlice (named 0)) valueLocal ∷ local (byteSlice (named 0)) valueLocal ∷ local (T′.mir erased) valueLocal ∷ [];
   body = seq (call #parse (copy (place 1 []) ∷ []) (place 2 [])) (seq (call k (copy (place 2 []) ∷ []) (place 0 [])) return);
 }
 
-abbrev pub clauses : (List ℕ → List ℕ) → {M : Type 1} (𝓤 : URA M) → Clauses 𝓤 payload-in.ended
-clauses D 𝓤 = λ κs x. record { ghost = Unit {0}; requires = λ g. emp 𝓤; ensures = λ g r e. fact 𝓤 (now r ≡ D (now (x .0))) }
+abbrev pub viewClauses : (List ℕ → List ℕ) → {M : Type 1} (𝓤 : URA M) → Clauses 𝓤 payload-in.ended
+viewClauses D 𝓤 = λ κs x. record { ghost = Unit {0}; requires = λ g. emp 𝓤; ensures = λ g r e. fact 𝓤 (now r ≡ D (now (x .0))) }
 
 -- the part at a and l of a view of s is D of its bytes
 abbrev pub Shows : (List ℕ → List ℕ) → Number → Number → Type 0
@@ -72,7 +72,7 @@ abbrev pub New : {M : Type 1} (𝓤 : URA M) (H : Heap 𝓤) (A : Atoms 𝓤) (m
 New 𝓤 H A mem run = tripleOf 𝓤 H A new.signature (new.spec 𝓤 H A mem run)
 
 abbrev pub Next : Number → Number → {M : Type 1} (𝓤 : URA M) (H : Heap 𝓤) (A : Atoms 𝓤) → Contract 𝓤
-Next a l 𝓤 H A = tripleOf 𝓤 H A next.signature (closing 𝓤 H A next.ended (thin.clauses a l 𝓤))
+Next a l 𝓤 H A = tripleOf 𝓤 H A next.signature (closing 𝓤 H A next.ended (thin.partClauses a l 𝓤))
 
 module _ (D : List ℕ → List ℕ) (a l : Number) (k : Name) {M : Type 1} (𝓤 : URA M) (H : Heap 𝓤) (A : Atoms 𝓤) (W : Given 𝓤 H A) (mem : Memory → SProp 𝓤) (run : Routine → Fun 𝓤) (κ : Lft) (q : Share) (s : RefT (List ℕ)) where
   -- the machine value that s has
@@ -90,7 +90,7 @@ module _ (D : List ℕ → List ℕ) (a l : Number) (k : Name) {M : Type 1} (�
   αᵉ = record { mir = erased; lft = κ }
 
   abbrev Post : Val → SProp 𝓤
-  Post = walkOf 𝓤 H A payload-in.ended stayed (clauses D 𝓤) .post (((κ, tt), (q, tt), tt, (s, tt), (v ∷ [], tt)), tt)
+  Post = walkOf 𝓤 H A payload-in.ended stayed (viewClauses D 𝓤) .post (((κ, tt), (q, tt), tt, (s, tt), (v ∷ [], tt)), tt)
 
   -- the result's type
   abbrev Sl : RattleType
@@ -119,13 +119,13 @@ module _ (D : List ℕ → List ℕ) (a l : Number) (k : Name) {M : Type 1} (�
   goes-next : (r : PacketView) (u : Val) → ent 𝓤 (⋆ 𝓤 H A (‵ (B (κ, tt) .own r (u ∷ [])) ∷ (‵ (flft κ q) ⊛ ‵ ftrue) ∷ [])) (Next a l 𝓤 H A .pre (to-next r u))
   goes-next r u = qed W (‵ (B (κ, tt) .own r (u ∷ [])) ∷ (‵ (flft κ q) ⊛ ‵ ftrue) ∷ []) ∵ nothing ! $ move ! (1 ∷ 0 ∷ []) $ fjoin ! $ move ! (1 ∷ 0 ∷ []) $ join ! $ frame ! $ done !
 
-  next-said : (r : PacketView) (t : RefT (List ℕ)) → ent 𝓤 (ensured 𝓤 H A next.ended (thin.clauses a l 𝓤) (κ, tt) (r, tt) tt t) (fact 𝓤 (now t ≡ shown r))
+  next-said : (r : PacketView) (t : RefT (List ℕ)) → ent 𝓤 (ensured 𝓤 H A next.ended (thin.partClauses a l 𝓤) (κ, tt) (r, tt) tt t) (fact 𝓤 (now t ≡ shown r))
   next-said r t = exE 𝓤 _ (λ ws. snd∗ 𝓤 (sem 𝓤 H A (lasts next.ended (κ, tt) (r, tt) ws)) (fact 𝓤 (now t ≡ shown r)))
 
   exits : (t : RefT (List ℕ)) (u : Val) → now t ≡ D (now s) → ent 𝓤 (⋆ 𝓤 H A (‵ (Sl .own t (u ∷ [])) ∷ (‵ (flft κ q) ⊛ ‵ ftrue) ∷ ‵ Own ∷ [])) (Post u)
   exits t u e =
       qed W (‵ (Sl .own t (u ∷ [])) ∷ (‵ (flft κ q) ⊛ ‵ ftrue) ∷ ‵ Own ∷ []) ∵
-      suffices ! _ (ends-at 𝓤 H A payload-in.ended stayed (clauses D 𝓤) W (((κ, tt), (q, tt), tt, (s, tt), (v ∷ [], tt)), tt) u t (tt, tt) (tt, tt)) $ says ! e $
+      suffices ! _ (ends-at 𝓤 H A payload-in.ended stayed (viewClauses D 𝓤) W (((κ, tt), (q, tt), tt, (s, tt), (v ∷ [], tt)), tt) u t (tt, tt) (tt, tt)) $ says ! e $
       move ! (1 ∷ []) $ frame ! $ nothing ! $ move ! (2 ∷ 0 ∷ []) $ fjoin ! $ frame ! $ done !
 
   module _ (C : Calls 𝓤 H) (Λ : Loops 𝓤 H) (fm : FmC 𝓤 H (W .laws) C) (known-new : Triple 𝓤 (C #parse) (New 𝓤 H A mem run)) (known-next : Triple 𝓤 (C k) (Next a l 𝓤 H A)) where
@@ -142,7 +142,7 @@ module _ (D : List ℕ → List ℕ) (a l : Number) (k : Name) {M : Type 1} (�
         land ! (from ! (stop !)) (init ! 3 refl (LL.lawful (T.the-type αᵉ) (T′.the-laws αᵉ) 𝓤 H A W .typed r _ is .0)) $
         use2 W (raw (Next a l 𝓤 H A .pre (to-next r u))) (goes-next r u) $
         calls-at ! fm (Next a l 𝓤 H A) known-next (to-next r u) (and-then ! (load ! (from ! (stop !)) (look ! 2 refl)) (no-more !)) (λ u′.
-        use1 W (later (some (λ (t : RefT (List ℕ)). ((‵ (flft κ q) ⊛ ‵ ftrue) ⊛ ‵ (Sl .own t (u′ ∷ []))) ⊛ raw (ensured 𝓤 H A next.ended (thin.clauses a l 𝓤) (κ, tt) (r, tt) tt t)))) (id⊢ 𝓤 _) $ await ! tt $ pick ! (λ t.
+        use1 W (later (some (λ (t : RefT (List ℕ)). ((‵ (flft κ q) ⊛ ‵ ftrue) ⊛ ‵ (Sl .own t (u′ ∷ []))) ⊛ raw (ensured 𝓤 H A next.ended (thin.partClauses a l 𝓤) (κ, tt) (r, tt) tt t)))) (id⊢ 𝓤 _) $ await ! tt $ pick ! (λ t.
         split ! $ move ! (1 ∷ []) $ use1 W (raw (fact 𝓤 (now t ≡ shown r))) (next-said r t) $ heard ! (now t ≡ shown r) (λ e′. split ! $ move ! (1 ∷ []) $
         -- [the result; the token; what s owns; _2; …; _1; …; room for _0; …]
         peeks ! Sl (Is Sl) (shows 𝓤 H A Sl) t (u′ ∷ []) (λ is′.
@@ -152,11 +152,11 @@ module _ (D : List ℕ → List ℕ) (a l : Number) (k : Name) {M : Type 1} (�
 
 module _ (D : List ℕ → List ℕ) (a l : Number) (k : Name) (law : Shows D a l) {M : Type 1} (𝓤 : URA M) (H : Heap 𝓤) (A : Atoms 𝓤) (W : Given 𝓤 H A) (mem : Memory → SProp 𝓤) (run : Routine → Fun 𝓤) where
   walks : (C : Calls 𝓤 H) (Λ : Loops 𝓤 H) → FmC 𝓤 H (W .laws) C → Triple 𝓤 (C #parse) (New 𝓤 H A mem run) → Triple 𝓤 (C k) (Next a l 𝓤 H A)
-      → Walks 𝓤 H A payload-in.ended stayed (WpFn 𝓤 H C Λ (door k)) (clauses D 𝓤)
-  walks C Λ fm known-new known-next = walked 𝓤 H A payload-in.ended stayed (clauses D 𝓤) (WpFn 𝓤 H C Λ (door k)) (λ κs. (slice-vals, tt)) (λ κs. (shr-slice-tells (named 0) (κs .0) u8, tt))
+      → Walks 𝓤 H A payload-in.ended stayed (WpFn 𝓤 H C Λ (door k)) (viewClauses D 𝓤)
+  walks C Λ fm known-new known-next = walked 𝓤 H A payload-in.ended stayed (viewClauses D 𝓤) (WpFn 𝓤 H C Λ (door k)) (λ κs. (slice-vals, tt)) (λ κs. (shr-slice-tells (named 0) (κs .0) u8, tt))
       (λ κs qs bounds x g are. via 𝓤 _ (fst∗ 𝓤 _ (emp 𝓤)) (walk D a l k 𝓤 H A W mem run (κs .0) (qs .0) (x .0) C Λ fm known-new known-next law (are .0)))
 
   pub door-meets : (𝓣 : Tables 𝓤 H) → Triple 𝓤 (𝓣 .C #parse) (New 𝓤 H A mem run) → Triple 𝓤 (𝓣 .C k) (Next a l 𝓤 H A)
-      → Meets 𝓤 H A payload-in.signature (WpFn 𝓤 H (𝓣 .C) (𝓣 .Λ) (door k)) (closing 𝓤 H A payload-in.ended (clauses D 𝓤))
-  door-meets 𝓣 known-new known-next = walk-meets 𝓤 H A payload-in.ended stayed W (goes-none-slice 𝓤 H A W 1 (0 ∷ []) tt (plain (λ _. u8)) yes, tt) (clauses D 𝓤) (WpFn 𝓤 H (𝓣 .C) (𝓣 .Λ) (door k)) (WpFn-mono 𝓤 H (W .laws) 𝓣 (door k))
+      → Meets 𝓤 H A payload-in.signature (WpFn 𝓤 H (𝓣 .C) (𝓣 .Λ) (door k)) (closing 𝓤 H A payload-in.ended (viewClauses D 𝓤))
+  door-meets 𝓣 known-new known-next = walk-meets 𝓤 H A payload-in.ended stayed W (goes-none-slice 𝓤 H A W 1 (0 ∷ []) tt (plain (λ _. u8)) yes, tt) (viewClauses D 𝓤) (WpFn 𝓤 H (𝓣 .C) (𝓣 .Λ) (door k)) (WpFn-mono 𝓤 H (W .laws) 𝓣 (door k))
       (walks (𝓣 .C) (𝓣 .Λ) (fmOf 𝓤 H (W .laws) 𝓣) known-new known-next)

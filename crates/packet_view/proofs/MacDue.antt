@@ -10,19 +10,19 @@ use Rattle.packet_head.specs.Block.{hasMac}
 use Rattle.packet_head.specs.Trailer.{macLen}
 use Rattle.packet_parse.specs.Frame.{Fields, MacAt, MacAt.noMac, MacAt.macFrom, typeIn, parseOf}
 use Rattle.packet_parse.proofs.MacDue.{there, accepted-due}
-use Rattle.packet_view.specs.View.{macIn, macOf}
+use Rattle.packet_view.specs.View.{macIn, frameMacOf}
 use Rattle.packet_view.proofs.ShownLaws.{accepted-mac, mac-length}
 
-mac-size : (m : MacAt) → macIn m .1 ≡ macLen (there m)
-mac-size noMac = refl
-mac-size (macFrom at) = refl
+mac-part-len : (m : MacAt) → macIn m .1 ≡ macLen (there m)
+mac-part-len noMac = refl
+mac-part-len (macFrom at) = refl
 
 module _ (s : List ℕ) (F : Fields) (e : parseOf s ≡ given F) where
-  due : macIn (F .mac) .1 ≡ macLen (hasMac (typeIn (F .block)))
-  due = mac-size (F .mac) ∙ ap macLen (accepted-due s F e .1)
+  mac-part-due : macIn (F .mac) .1 ≡ macLen (hasMac (typeIn (F .block)))
+  mac-part-due = mac-part-len (F .mac) ∙ ap macLen (accepted-due s F e .1)
 
-  pub mac-four : 0x15 ≤ typeIn (F .block) → length (macOf s) ≡ 4
-  mac-four h = mac-length s F e ∙ due ∙ ap macLen (le-leb 0x15 (typeIn (F .block)) h)
+  pub mac-four : 0x15 ≤ typeIn (F .block) → length (frameMacOf s) ≡ 4
+  mac-four h = mac-length s F e ∙ mac-part-due ∙ ap macLen (le-leb 0x15 (typeIn (F .block)) h)
 
-  pub mac-none : typeIn (F .block) < 0x15 → macOf s ≡ []
-  mac-none h = accepted-mac s F e ∙ ap (λ (k : ℕ). take k (drop (macIn (F .mac) .0) s)) (due ∙ ap macLen (lt-leb 0x15 (typeIn (F .block)) h))
+  pub no-mac-bytes : typeIn (F .block) < 0x15 → frameMacOf s ≡ []
+  no-mac-bytes h = accepted-mac s F e ∙ ap (λ (k : ℕ). take k (drop (macIn (F .mac) .0) s)) (mac-part-due ∙ ap macLen (lt-leb 0x15 (typeIn (F .block)) h))

@@ -12,60 +12,60 @@ use Rattle.laws.proofs.Answers.{Holds}
 use Rattle.laws.proofs.Lists.{part-length}
 use Rattle.packet_parse.specs.Frame.{Fields, BlockAt, BlockAt.noBlock, BlockAt.blockAt, MacAt, MacAt.noMac, MacAt.macFrom, parseOf}
 use Rattle.packet_parse.proofs.Within.{Inside, BlockInside, MacInside, parse-inside, accepted-inside}
-use Rattle.packet_view.specs.View.{Part, Shown, placesOf, viewed, partOf, bytesAt, blockIn, dataIn, macIn, blockDataOf, payloadOf, macOf}
+use Rattle.packet_view.specs.View.{Part, Shown, placesOf, viewed, partOf, bytesAt, blockIn, dataIn, macIn, blockDataOf, payloadOf, frameMacOf}
 use Rattle.packet_view.specs.declared.view.PacketView.{PacketView}
 use Rattle.packet_view.proofs.PartLaws.{part-in}
 
 -- ---- the three parts of an accepted frame lie inside it
 
 -- p of n bytes
-abbrev pub Fits : (Fields → Part) → Type 0
-Fits p = (n : ℕ) (F : Fields) → Inside n F → p F .0 + p F .1 ≤ n
+abbrev pub PartFits : (Fields → Part) → Type 0
+PartFits p = (n : ℕ) (F : Fields) → Inside n F → p F .0 + p F .1 ≤ n
 
-abbrev pub blockOf : Fields → Part
-blockOf F = blockIn (F .block)
+abbrev pub blockPartOf : Fields → Part
+blockPartOf F = blockIn (F .block)
 
 abbrev pub macPartOf : Fields → Part
 macPartOf F = macIn (F .mac)
 
-block-fits : (b : BlockAt) (at n : ℕ) → BlockInside b at → at ≤ n → blockIn b .0 + blockIn b .1 ≤ n
-block-fits noBlock at n h k = omega arith
-block-fits (blockAt ty start len) at n h k = omega (arith, h .1)
+block-part-fits : (b : BlockAt) (at n : ℕ) → BlockInside b at → at ≤ n → blockIn b .0 + blockIn b .1 ≤ n
+block-part-fits noBlock at n h k = omega arith
+block-part-fits (blockAt ty start len) at n h k = omega (arith, h .1)
 
-mac-fits : (m : MacAt) (end len n : ℕ) → MacInside m end len → len ≤ n → macIn m .0 + macIn m .1 ≤ n
-mac-fits noMac end len n h k = omega arith
-mac-fits (macFrom at) end len n h k = omega (arith, h .1)
+mac-part-fits : (m : MacAt) (end len n : ℕ) → MacInside m end len → len ≤ n → macIn m .0 + macIn m .1 ≤ n
+mac-part-fits noMac end len n h k = omega arith
+mac-part-fits (macFrom at) end len n h k = omega (arith, h .1)
 
-pub block-inside : Fits blockOf
-block-inside n F i = block-fits (F .block) (F .dataStart) n (i .block) (omega (arith, i .«data», i .most))
+pub block-part-inside : PartFits blockPartOf
+block-part-inside n F i = block-part-fits (F .block) (F .dataStart) n (i .block) (omega (arith, i .«data», i .most))
 
-pub payload-inside : Fits dataIn
+pub payload-inside : PartFits dataIn
 payload-inside n F i = omega (arith, i .«data», i .most)
 
-pub mac-inside : Fits macPartOf
-mac-inside n F i = mac-fits (F .mac) (F .dataStart + F .dataLen) (F .len) n (i .mac) (i .most)
+pub mac-part-inside : PartFits macPartOf
+mac-part-inside n F i = mac-part-fits (F .mac) (F .dataStart + F .dataLen) (F .len) n (i .mac) (i .most)
 
 -- ---- what the places show
 
 -- q is the place of the part p
-pub record Placed (p : Fields → Part) (q : Shown → Part) : Type 0 where
+pub record PlaceOf (p : Fields → Part) (q : Shown → Part) : Type 0 where
   pub accepted : (F : Fields) → q (placesOf (given F)) ≡ p F
   pub refused : (n : ℕ) (vs : List ℕ) → q (placesOf (refused n vs)) ≡ (0, 0)
-  pub fits : Fits p
+  pub fits : PartFits p
 
-block-placed : Placed blockOf (λ x. x .block)
+block-placed : PlaceOf blockPartOf (λ x. x .block)
 unfolding placesOf
-block-placed = record { accepted = λ F. refl; refused = λ n vs. refl; fits = block-inside }
+block-placed = record { accepted = λ F. refl; refused = λ n vs. refl; fits = block-part-inside }
 
-payload-placed : Placed dataIn (λ x. x .payload)
+payload-placed : PlaceOf dataIn (λ x. x .payload)
 unfolding placesOf
 payload-placed = record { accepted = λ F. refl; refused = λ n vs. refl; fits = payload-inside }
 
-mac-placed : Placed macPartOf (λ x. x .mac)
+mac-placed : PlaceOf macPartOf (λ x. x .mac)
 unfolding placesOf
-mac-placed = record { accepted = λ F. refl; refused = λ n vs. refl; fits = mac-inside }
+mac-placed = record { accepted = λ F. refl; refused = λ n vs. refl; fits = mac-part-inside }
 
-module _ (p : Fields → Part) (q : Shown → Part) (at : Placed p q) where
+module _ (p : Fields → Part) (q : Shown → Part) (at : PlaceOf p q) where
   place-shows : (s : List ℕ) (x : Answer Fields) → Holds (Inside (length s)) x → partOf s (q (placesOf x) .0) (q (placesOf x) .1) ≡ bytesAt s p x
   place-shows s (given F) i = ap (λ (y : Part). partOf s (y .0) (y .1)) (at .accepted F) ∙ part-in s (p F .0) (p F .1) (at .fits (length s) F i)
   place-shows s (refused n vs) i = ap (λ (y : Part). partOf s (y .0) (y .1)) (at .refused n vs) ∙ part-in s 0 0 (omega arith)
@@ -80,42 +80,42 @@ module _ (p : Fields → Part) (q : Shown → Part) (at : Placed p q) where
 module _ (s : RefT (List ℕ)) (r : PacketView) (e : viewed r ≡ (s, placesOf (parseOf (now s)))) where
   pub block-data-shown : partOf (now (r .frame)) (r .«block_at») (r .«block_len») ≡ blockDataOf (now s)
   unfolding blockDataOf
-  block-data-shown = view-shows blockOf (λ x. x .block) block-placed s r e
+  block-data-shown = view-shows blockPartOf (λ x. x .block) block-placed s r e
 
   pub payload-shown : partOf (now (r .frame)) (r .«data_at») (r .«data_len») ≡ payloadOf (now s)
   unfolding payloadOf
   payload-shown = view-shows dataIn (λ x. x .payload) payload-placed s r e
 
-  pub mac-shown : partOf (now (r .frame)) (r .«mac_at») (r .«mac_len») ≡ macOf (now s)
-  unfolding macOf
+  pub mac-shown : partOf (now (r .frame)) (r .«mac_at») (r .«mac_len») ≡ frameMacOf (now s)
+  unfolding frameMacOf
   mac-shown = view-shows macPartOf (λ x. x .mac) mac-placed s r e
 
 -- ---- after a refusal
 
-pub refused-empty : (s : List ℕ) (n : ℕ) (vs : List ℕ) → parseOf s ≡ refused n vs → (blockDataOf s ≡ []) × (payloadOf s ≡ []) × (macOf s ≡ [])
-unfolding blockDataOf payloadOf macOf
-refused-empty s n vs e = (ap (bytesAt s blockOf) e, ap (bytesAt s dataIn) e, ap (bytesAt s macPartOf) e)
+pub refused-empty : (s : List ℕ) (n : ℕ) (vs : List ℕ) → parseOf s ≡ refused n vs → (blockDataOf s ≡ []) × (payloadOf s ≡ []) × (frameMacOf s ≡ [])
+unfolding blockDataOf payloadOf frameMacOf
+refused-empty s n vs e = (ap (bytesAt s blockPartOf) e, ap (bytesAt s dataIn) e, ap (bytesAt s macPartOf) e)
 
 -- ---- of an accepted frame: the bytes there, and all of them
 
 module _ (s : List ℕ) (F : Fields) (e : parseOf s ≡ given F) where
   pub accepted-block-data : blockDataOf s ≡ take (blockIn (F .block) .1) (drop (blockIn (F .block) .0) s)
   unfolding blockDataOf
-  accepted-block-data = ap (bytesAt s blockOf) e
+  accepted-block-data = ap (bytesAt s blockPartOf) e
 
   pub accepted-payload : payloadOf s ≡ take (F .dataLen) (drop (F .dataStart) s)
   unfolding payloadOf
   accepted-payload = ap (bytesAt s dataIn) e
 
-  pub accepted-mac : macOf s ≡ take (macIn (F .mac) .1) (drop (macIn (F .mac) .0) s)
-  unfolding macOf
+  pub accepted-mac : frameMacOf s ≡ take (macIn (F .mac) .1) (drop (macIn (F .mac) .0) s)
+  unfolding frameMacOf
   accepted-mac = ap (bytesAt s macPartOf) e
 
   pub block-data-length : length (blockDataOf s) ≡ blockIn (F .block) .1
-  block-data-length = ap length accepted-block-data ∙ part-length s _ _ (block-inside (length s) F (accepted-inside s F e))
+  block-data-length = ap length accepted-block-data ∙ part-length s _ _ (block-part-inside (length s) F (accepted-inside s F e))
 
   pub payload-length : length (payloadOf s) ≡ F .dataLen
   payload-length = ap length accepted-payload ∙ part-length s _ _ (payload-inside (length s) F (accepted-inside s F e))
 
-  pub mac-length : length (macOf s) ≡ macIn (F .mac) .1
-  mac-length = ap length accepted-mac ∙ part-length s _ _ (mac-inside (length s) F (accepted-inside s F e))
+  pub mac-length : length (frameMacOf s) ≡ macIn (F .mac) .1
+  mac-length = ap length accepted-mac ∙ part-length s _ _ (mac-part-inside (length s) F (accepted-inside s F e))

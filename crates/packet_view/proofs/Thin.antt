@@ -2,7 +2,7 @@
 --     Number           a field of the struct that is a `usize`: its place, how it is read off a record and off a machine value, and that it fits
 --     thin i j         the method's MIR, with the places of the two fields. A method's own `code.function` is this by computation
 --     clauses a l      its contract: the result is the part of the frame from a on, l bytes long
---     thin-meets       where `part` meets its contract, the method meets `clauses a l`
+--     thin-meets       where `part` meets its contract, the method meets `partClauses a l`
 -- The struct is Copy: what it owns is had twice, one copy is kept whole for the exit, and of the other what frame owns goes to the callee, beside the lifetime's token, which comes back. What the numbers own is made anew.
 -- Assumes nothing.
 use mathlib.Core.Path.{_≡_, refl, sym, subst}
@@ -56,62 +56,62 @@ use Rattle.packet_view.proofs.view.PacketView.payload as method
 use Rattle.packet_view.proofs.parts.part as fun
 use Rattle.packet_view.proofs.parts.part.Symbol.{name as #part}
 
-abbrev pub slice : Lifetime → Ty
-slice ℓ = tyStruct sliceName (tcons (tyRef ℓ imm (tyInt w8)) (tcons (tyInt w64) tnil))
+abbrev pub byteSlice : Lifetime → Ty
+byteSlice ℓ = tyStruct sliceName (tcons (tyRef ℓ imm (tyInt w8)) (tcons (tyInt w64) tnil))
 
 -- the fields' machine values
-abbrev pub fields : Val → Vals
-fields (vstruct vs) = vs
-fields vunit = vnil
-fields (vbool b) = vnil
-fields (vint w n) = vnil
-fields (vfloat f x) = vnil
-fields (vptr b o) = vnil
+abbrev pub structVals : Val → Vals
+structVals (vstruct vs) = vs
+structVals vunit = vnil
+structVals (vbool b) = vnil
+structVals (vint w n) = vnil
+structVals (vfloat f x) = vnil
+structVals (vptr b o) = vnil
 
 pub record Number : Type 1 where
   pub place : ℕ
   pub offset : ℕ
   pub of : PacketView → ℕ
   pub found : fieldOf (T′.mir (named 0)) place ≡ here (tyInt w64, offset)
-  pub reads : (d : PacketView) → getV (fields (T′.lowered d)) place ≡ vint w64 (of d)
+  pub reads : (d : PacketView) → getV (structVals (T′.lowered d)) place ≡ vint w64 (of d)
   pub small : (α : NamedLft) (d : PacketView) (vs : List Val) → Is (T.the-row α) d vs → of d < 2 ^ 64
 
 -- ---- the six numbers that say where the parts stand
 
-abbrev pub blockAt : Number
-blockAt = record { place = 8; offset = _; of = λ d. d .«block_at»; found = refl; reads = λ d. refl; small = λ α d vs is. LL.owed (T.the-type α) (T′.the-laws α) d vs is .1 .1 .1 .1 .1 .1 .1 .1 .0 .1 }
+abbrev pub block-at : Number
+block-at = record { place = 8; offset = _; of = λ d. d .«block_at»; found = refl; reads = λ d. refl; small = λ α d vs is. LL.owed (T.the-type α) (T′.the-laws α) d vs is .1 .1 .1 .1 .1 .1 .1 .1 .0 .1 }
 
-abbrev pub blockLen : Number
-blockLen = record { place = 9; offset = _; of = λ d. d .«block_len»; found = refl; reads = λ d. refl; small = λ α d vs is. LL.owed (T.the-type α) (T′.the-laws α) d vs is .1 .1 .1 .1 .1 .1 .1 .1 .1 .0 .1 }
+abbrev pub block-len : Number
+block-len = record { place = 9; offset = _; of = λ d. d .«block_len»; found = refl; reads = λ d. refl; small = λ α d vs is. LL.owed (T.the-type α) (T′.the-laws α) d vs is .1 .1 .1 .1 .1 .1 .1 .1 .1 .0 .1 }
 
-abbrev pub dataAt : Number
-dataAt = record { place = 10; offset = _; of = λ d. d .«data_at»; found = refl; reads = λ d. refl; small = λ α d vs is. LL.owed (T.the-type α) (T′.the-laws α) d vs is .1 .1 .1 .1 .1 .1 .1 .1 .1 .1 .0 .1 }
+abbrev pub data-at : Number
+data-at = record { place = 10; offset = _; of = λ d. d .«data_at»; found = refl; reads = λ d. refl; small = λ α d vs is. LL.owed (T.the-type α) (T′.the-laws α) d vs is .1 .1 .1 .1 .1 .1 .1 .1 .1 .1 .0 .1 }
 
-abbrev pub dataLen : Number
-dataLen = record { place = 11; offset = _; of = λ d. d .«data_len»; found = refl; reads = λ d. refl; small = λ α d vs is. LL.owed (T.the-type α) (T′.the-laws α) d vs is .1 .1 .1 .1 .1 .1 .1 .1 .1 .1 .1 .0 .1 }
+abbrev pub data-len : Number
+data-len = record { place = 11; offset = _; of = λ d. d .«data_len»; found = refl; reads = λ d. refl; small = λ α d vs is. LL.owed (T.the-type α) (T′.the-laws α) d vs is .1 .1 .1 .1 .1 .1 .1 .1 .1 .1 .1 .0 .1 }
 
-abbrev pub macAt : Number
-macAt = record { place = 12; offset = _; of = λ d. d .«mac_at»; found = refl; reads = λ d. refl; small = λ α d vs is. LL.owed (T.the-type α) (T′.the-laws α) d vs is .1 .1 .1 .1 .1 .1 .1 .1 .1 .1 .1 .1 .0 .1 }
+abbrev pub mac-at : Number
+mac-at = record { place = 12; offset = _; of = λ d. d .«mac_at»; found = refl; reads = λ d. refl; small = λ α d vs is. LL.owed (T.the-type α) (T′.the-laws α) d vs is .1 .1 .1 .1 .1 .1 .1 .1 .1 .1 .1 .1 .0 .1 }
 
-abbrev pub macLen : Number
-macLen = record { place = 13; offset = _; of = λ d. d .«mac_len»; found = refl; reads = λ d. refl; small = λ α d vs is. LL.owed (T.the-type α) (T′.the-laws α) d vs is .1 .1 .1 .1 .1 .1 .1 .1 .1 .1 .1 .1 .1 .0 .1 }
+abbrev pub mac-len : Number
+mac-len = record { place = 13; offset = _; of = λ d. d .«mac_len»; found = refl; reads = λ d. refl; small = λ α d vs is. LL.owed (T.the-type α) (T′.the-laws α) d vs is .1 .1 .1 .1 .1 .1 .1 .1 .1 .1 .1 .1 .1 .0 .1 }
 
 abbrev pub thin : ℕ → ℕ → Fn
 thin i j = record {
   lifetimes = 1;
   outlives = [];
   params = 1;
-  locals = local (slice (named 0)) valueLocal ∷ local (T′.mir (named 0)) valueLocal ∷ local (slice erased) valueLocal ∷ local (tyInt w64) valueLocal ∷ local (tyInt w64) valueLocal ∷ [];
+  locals = local (byteSlice (named 0)) valueLocal ∷ local (T′.mir (named 0)) valueLocal ∷ local (byteSlice erased) valueLocal ∷ local (tyInt w64) valueLocal ∷ local (tyInt w64) valueLocal ∷ [];
   body = seq (assign (place 2 []) (rvOpd (copy (place 1 (field 0 ∷ []))))) (seq (assign (place 3 []) (rvOpd (copy (place 1 (field i ∷ []))))) (seq (assign (place 4 []) (rvOpd (copy (place 1 (field j ∷ [])))))
       (seq (call #part (copy (place 2 []) ∷ copy (place 3 []) ∷ copy (place 4 []) ∷ []) (place 0 [])) return)));
 }
 
-abbrev pub clauses : Number → Number → {M : Type 1} (𝓤 : URA M) → Clauses 𝓤 method.ended
-clauses a l 𝓤 = λ κs x. record { ghost = Unit {0}; requires = λ g. emp 𝓤; ensures = λ g r e. fact 𝓤 (now r ≡ partOf (now (x .0 .frame)) (a .of (x .0)) (l .of (x .0))) }
+abbrev pub partClauses : Number → Number → {M : Type 1} (𝓤 : URA M) → Clauses 𝓤 method.ended
+partClauses a l 𝓤 = λ κs x. record { ghost = Unit {0}; requires = λ g. emp 𝓤; ensures = λ g r e. fact 𝓤 (now r ≡ partOf (now (x .0 .frame)) (a .of (x .0)) (l .of (x .0))) }
 
 -- the callee's contract
-abbrev pub Part : {M : Type 1} (𝓤 : URA M) (H : Heap 𝓤) (A : Atoms 𝓤) (mem : Memory → SProp 𝓤) (run : Routine → Fun 𝓤) → Contract 𝓤
-Part 𝓤 H A mem run = tripleOf 𝓤 H A fun.signature (fun.spec 𝓤 H A mem run)
+abbrev pub PartContract : {M : Type 1} (𝓤 : URA M) (H : Heap 𝓤) (A : Atoms 𝓤) (mem : Memory → SProp 𝓤) (run : Routine → Fun 𝓤) → Contract 𝓤
+PartContract 𝓤 H A mem run = tripleOf 𝓤 H A fun.signature (fun.spec 𝓤 H A mem run)
 
 -- the struct's type, over the signature's lifetimes
 abbrev pub B : Lfts 1 → RattleType
@@ -132,7 +132,7 @@ module _ (a l : Number) {M : Type 1} (𝓤 : URA M) (H : Heap 𝓤) (A : Atoms �
   v = sliceVal (d .frame .ptr) (length (d .frame .now))
 
   abbrev Post : Val → SProp 𝓤
-  Post = walkOf 𝓤 H A method.ended stayed (clauses a l 𝓤) .post (((κ, tt), (q, tt), tt, (d, tt), (mach ∷ [], tt)), tt)
+  Post = walkOf 𝓤 H A method.ended stayed (partClauses a l 𝓤) .post (((κ, tt), (q, tt), tt, (d, tt), (mach ∷ [], tt)), tt)
 
   abbrev Own : Fml
   Own = B (κ, tt) .own d (mach ∷ [])
@@ -145,31 +145,31 @@ module _ (a l : Number) {M : Type 1} (𝓤 : URA M) (H : Heap 𝓤) (A : Atoms �
   L = T′.the-laws α
 
   abbrev vd : Values (D .parts)
-  vd = (d .frame, (d .outcome, (d .addr, (d .ctrl, (d .block, (d .code, (d .trailer, (d .len, (d .«block_at», (d .«block_len», (d .«data_at», (d .«data_len», (d .«mac_at», (d .«mac_len», tt))))))))))))))
+  vd = (d .frame, (d .verdict, (d .addr, (d .ctrl, (d .block, (d .code, (d .trailer, (d .len, (d .«block_at», (d .«block_len», (d .«data_at», (d .«data_len», (d .«mac_at», (d .«mac_len», tt))))))))))))))
 
   -- a number, as it lies in the struct, has its MIR type
-  number-typed : (n : Number) → Is (B (κ, tt)) d (mach ∷ []) → Holds (hasTy (tyInt w64) (getV (fields mach) (n .place))) × WT (getV (fields mach) (n .place))
+  number-typed : (n : Number) → Is (B (κ, tt)) d (mach ∷ []) → Holds (hasTy (tyInt w64) (getV (structVals mach) (n .place))) × WT (getV (structVals mach) (n .place))
   number-typed n is = subst (λ (u : Val). Holds (hasTy (tyInt w64) u) × WT u) (sym (n .reads d)) (tt, record { fits = n .small α d _ is })
 
   -- what the callee is passed
   abbrev passed : Passed fun.signature (κ, tt)
   passed = (v ∷ [], (vint w64 (a .of d) ∷ [], (vint w64 (l .of d) ∷ [], tt)))
 
-  abbrev to : Part 𝓤 H A mem run .Ghost
+  abbrev to : PartContract 𝓤 H A mem run .Ghost
   to = (((κ, tt), (q, tt), tt, (d .frame, (a .of d, (l .of d, tt))), passed), tt)
 
-  asked : ent 𝓤 (onEntry 𝓤 H A fun.signature (κ, tt) (q, tt) (d .frame, (a .of d, (l .of d, tt))) passed) (Part 𝓤 H A mem run .pre to)
+  asked : ent 𝓤 (onEntry 𝓤 H A fun.signature (κ, tt) (q, tt) (d .frame, (a .of d, (l .of d, tt))) passed) (PartContract 𝓤 H A mem run .pre to)
   asked = qed W ((‵ (flft κ q) ⊛ ‵ ftrue) ∷ ‵ (owns (ShrSlice (named 0) κ u8 ∷ usize ∷ usize ∷ []) (d .frame, (a .of d, (l .of d, tt))) passed) ∷ []) ∵ join ! $ frame ! $ done !
 
   -- what the struct owns gives what the callee asks, and is kept
-  apart : Is (B (κ, tt)) d (mach ∷ []) → ent 𝓤 (onEntry 𝓤 H A method.signature (κ, tt) (q, tt) (d, tt) (mach ∷ [], tt)) (sep 𝓤 (Part 𝓤 H A mem run .pre to) (sem 𝓤 H A Own))
+  apart : Is (B (κ, tt)) d (mach ∷ []) → ent 𝓤 (onEntry 𝓤 H A method.signature (κ, tt) (q, tt) (d, tt) (mach ∷ [], tt)) (sep 𝓤 (PartContract 𝓤 H A mem run .pre to) (sem 𝓤 H A Own))
   apart is =
       qed W ((‵ (flft κ q) ⊛ ‵ ftrue) ∷ ‵ (owns (B (κ, tt) ∷ []) (d, tt) (mach ∷ [], tt)) ∷ []) ∵
       move ! (1 ∷ []) $ fsplit ! $ move ! (1 ∷ []) $ drop ! $ use1 W (‵ Own ⊛ ‵ Own) (LL.copy D (T′.the-copy α) 𝓤 H A W .twice d (mach ∷ [])) $ split ! $
       use1 W (given (mach ∷ [] ≡ vstruct (spelled (D .parts) L vd) ∷ []) (‵ (all-own (D .parts) L vd))) (own-open 𝓤 H A W D L vd mach) $ learn ! (λ _. use1 W (‵ (ownAt (D .parts) L 0 (d .frame)) ⊛ ‵ (rest (D .parts) L 0 vd)) (own-out 𝓤 H A W (D .parts) L 0 vd) $ split ! $
       -- [what frame owns; what the places own; what the struct owns; the token]
       move ! (1 ∷ []) $ drop ! $ nothing ! $ owned ! usize (Is usize) (uint-makes 𝓤 H A W w64) (l .of d) _ (refl, l .small α d _ is) $ fjoin ! $ owned ! usize (Is usize) (uint-makes 𝓤 H A W w64) (a .of d) _ (refl, a .small α d _ is) $ fjoin ! $ move ! (1 ∷ 0 ∷ []) $ fjoin ! $
-      move ! (2 ∷ 0 ∷ []) $ use2 W (raw (Part 𝓤 H A mem run .pre to)) asked $ frame ! $ done !)
+      move ! (2 ∷ 0 ∷ []) $ use2 W (raw (PartContract 𝓤 H A mem run .pre to)) asked $ frame ! $ done !)
 
   -- of the callee's `ensured`, the clause alone: it has no `&mut`, so what is said of last values is dropped
   said : (r : RefT (List ℕ)) → ent 𝓤 (ensured 𝓤 H A fun.ended (fun.clauses 𝓤 H A mem run) (κ, tt) (d .frame, (a .of d, (l .of d, tt))) tt r) (fact 𝓤 (now r ≡ partOf (now (d .frame)) (a .of d) (l .of d)))
@@ -178,10 +178,10 @@ module _ (a l : Number) {M : Type 1} (𝓤 : URA M) (H : Heap 𝓤) (A : Atoms �
   exits : (r : RefT (List ℕ)) (u : Val) → now r ≡ partOf (now (d .frame)) (a .of d) (l .of d) → ent 𝓤 (⋆ 𝓤 H A (‵ (ShrSlice (named 0) κ u8 .own r (u ∷ [])) ∷ (‵ (flft κ q) ⊛ ‵ ftrue) ∷ ‵ Own ∷ [])) (Post u)
   exits r u e =
       qed W (‵ (ShrSlice (named 0) κ u8 .own r (u ∷ [])) ∷ (‵ (flft κ q) ⊛ ‵ ftrue) ∷ ‵ Own ∷ []) ∵
-      suffices ! _ (ends-at 𝓤 H A method.ended stayed (clauses a l 𝓤) W (((κ, tt), (q, tt), tt, (d, tt), (mach ∷ [], tt)), tt) u r (tt, tt) (tt, tt)) $ says ! e $
+      suffices ! _ (ends-at 𝓤 H A method.ended stayed (partClauses a l 𝓤) W (((κ, tt), (q, tt), tt, (d, tt), (mach ∷ [], tt)), tt) u r (tt, tt) (tt, tt)) $ says ! e $
       move ! (1 ∷ []) $ frame ! $ nothing ! $ move ! (2 ∷ 0 ∷ []) $ fjoin ! $ frame ! $ done !
 
-  module _ (C : Calls 𝓤 H) (Λ : Loops 𝓤 H) (fm : FmC 𝓤 H (W .laws) C) (known : Triple 𝓤 (C #part) (Part 𝓤 H A mem run)) where
+  module _ (C : Calls 𝓤 H) (Λ : Loops 𝓤 H) (fm : FmC 𝓤 H (W .laws) C) (known : Triple 𝓤 (C #part) (PartContract 𝓤 H A mem run)) where
     walk : Is (B (κ, tt)) d (mach ∷ []) → ent 𝓤 (onEntry 𝓤 H A method.signature (κ, tt) (q, tt) (d, tt) (mach ∷ [], tt)) (WpFn 𝓤 H C Λ (thin (a .place) (l .place)) (mach ∷ []) Post)
     walk is =
         let wt : Holds (hasTy (T′.mir (named 0)) mach) × WT mach = LL.lawful D L 𝓤 H A W .typed d _ is .0 in
@@ -190,8 +190,8 @@ module _ (a l : Number) {M : Type 1} (𝓤 : URA M) (H : Heap 𝓤) (A : Atoms �
         assigns ! (of-opd ! (load ! (from ! (fld ! refl (stop !))) (look-in ! 6 (sub ! 0 refl (whole !))))) (from ! (stop !)) (init ! 4 refl (tt, wt .1 .0)) $
         assigns ! (of-opd ! (load ! (from ! (fld ! (a .found) (stop !))) (look-in ! 6 (sub ! (a .place) (a .found) (whole !))))) (from ! (stop !)) (init ! 2 refl (number-typed a is)) $ rewrite ! 2 (λ (u : Val). ‵ (fat fullShare (tyInt w64) l₃ 0 u)) (a .reads d) refl $
         assigns ! (of-opd ! (load ! (from ! (fld ! (l .found) (stop !))) (look-in ! 6 (sub ! (l .place) (l .found) (whole !))))) (from ! (stop !)) (init ! 0 refl (number-typed l is)) $ rewrite ! 0 (λ (u : Val). ‵ (fat fullShare (tyInt w64) l₄ 0 u)) (l .reads d) refl $
-        move ! (10 ∷ []) $ use1 W (raw (Part 𝓤 H A mem run .pre to) ⊛ ‵ Own) (apart is) $ split ! $
-        calls-at ! fm (Part 𝓤 H A mem run) known to (and-then ! (load ! (from ! (stop !)) (look ! 6 refl)) (and-then ! (load ! (from ! (stop !)) (look ! 4 refl)) (and-then ! (load ! (from ! (stop !)) (look ! 2 refl)) (no-more !)))) (λ u.
+        move ! (10 ∷ []) $ use1 W (raw (PartContract 𝓤 H A mem run .pre to) ⊛ ‵ Own) (apart is) $ split ! $
+        calls-at ! fm (PartContract 𝓤 H A mem run) known to (and-then ! (load ! (from ! (stop !)) (look ! 6 refl)) (and-then ! (load ! (from ! (stop !)) (look ! 4 refl)) (and-then ! (load ! (from ! (stop !)) (look ! 2 refl)) (no-more !)))) (λ u.
         use1 W (later (some (λ (r : RefT (List ℕ)). ((‵ (flft κ q) ⊛ ‵ ftrue) ⊛ ‵ (ShrSlice (named 0) κ u8 .own r (u ∷ []))) ⊛ raw (ensured 𝓤 H A fun.ended (fun.clauses 𝓤 H A mem run) (κ, tt) (d .frame, (a .of d, (l .of d, tt))) tt r)))) (id⊢ 𝓤 _) $ await ! tt $ pick ! (λ r.
         split ! $ move ! (1 ∷ []) $ use1 W (raw (fact 𝓤 (now r ≡ partOf (now (d .frame)) (a .of d) (l .of d)))) (said r) $ heard ! (now r ≡ partOf (now (d .frame)) (a .of d) (l .of d)) (λ e. split ! $ move ! (1 ∷ []) $
         -- [the result; the token; what the struct owns; _4; …; _3; …; _2; …; _1; …; room for _0; …]
@@ -201,10 +201,10 @@ module _ (a l : Number) {M : Type 1} (𝓤 : URA M) (H : Heap 𝓤) (A : Atoms �
         move ! (11 ∷ 12 ∷ []) $ free1 ! $ move ! (9 ∷ 10 ∷ []) $ free1 ! $ move ! (7 ∷ 8 ∷ []) $ free1 ! $ move ! (5 ∷ 6 ∷ []) $ free1 ! $ move ! (3 ∷ 4 ∷ []) $ free1 ! $ free0 ! $ by ! (exits r u e))))))))))
 
 module _ (a l : Number) {M : Type 1} (𝓤 : URA M) (H : Heap 𝓤) (A : Atoms 𝓤) (W : Given 𝓤 H A) (mem : Memory → SProp 𝓤) (run : Routine → Fun 𝓤) where
-  walks : (C : Calls 𝓤 H) (Λ : Loops 𝓤 H) → FmC 𝓤 H (W .laws) C → Triple 𝓤 (C #part) (Part 𝓤 H A mem run) → Walks 𝓤 H A method.ended stayed (WpFn 𝓤 H C Λ (thin (a .place) (l .place))) (clauses a l 𝓤)
-  walks C Λ fm known = walked 𝓤 H A method.ended stayed (clauses a l 𝓤) (WpFn 𝓤 H C Λ (thin (a .place) (l .place))) (λ κs. ((λ d. T′.lowered d ∷ []), tt)) (λ κs. (T′.lowers (namedLft 1 0 tt κs) .val-is, tt))
+  walks : (C : Calls 𝓤 H) (Λ : Loops 𝓤 H) → FmC 𝓤 H (W .laws) C → Triple 𝓤 (C #part) (PartContract 𝓤 H A mem run) → Walks 𝓤 H A method.ended stayed (WpFn 𝓤 H C Λ (thin (a .place) (l .place))) (partClauses a l 𝓤)
+  walks C Λ fm known = walked 𝓤 H A method.ended stayed (partClauses a l 𝓤) (WpFn 𝓤 H C Λ (thin (a .place) (l .place))) (λ κs. ((λ d. T′.lowered d ∷ []), tt)) (λ κs. (T′.lowers (namedLft 1 0 tt κs) .val-is, tt))
       (λ κs qs bounds x g are. via 𝓤 _ (fst∗ 𝓤 _ (emp 𝓤)) (walk a l 𝓤 H A W mem run (κs .0) (qs .0) (x .0) C Λ fm known (are .0)))
 
-  pub thin-meets : (𝓣 : Tables 𝓤 H) → Triple 𝓤 (𝓣 .C #part) (Part 𝓤 H A mem run) → Meets 𝓤 H A method.signature (WpFn 𝓤 H (𝓣 .C) (𝓣 .Λ) (thin (a .place) (l .place))) (closing 𝓤 H A method.ended (clauses a l 𝓤))
-  thin-meets 𝓣 known = walk-meets 𝓤 H A method.ended stayed W (goes-none 𝓤 H A W 1 B yes (λ κs x f. refl), tt) (clauses a l 𝓤) (WpFn 𝓤 H (𝓣 .C) (𝓣 .Λ) (thin (a .place) (l .place))) (WpFn-mono 𝓤 H (W .laws) 𝓣 (thin (a .place) (l .place)))
+  pub thin-meets : (𝓣 : Tables 𝓤 H) → Triple 𝓤 (𝓣 .C #part) (PartContract 𝓤 H A mem run) → Meets 𝓤 H A method.signature (WpFn 𝓤 H (𝓣 .C) (𝓣 .Λ) (thin (a .place) (l .place))) (closing 𝓤 H A method.ended (partClauses a l 𝓤))
+  thin-meets 𝓣 known = walk-meets 𝓤 H A method.ended stayed W (goes-none 𝓤 H A W 1 B yes (λ κs x f. refl), tt) (partClauses a l 𝓤) (WpFn 𝓤 H (𝓣 .C) (𝓣 .Λ) (thin (a .place) (l .place))) (WpFn-mono 𝓤 H (W .laws) 𝓣 (thin (a .place) (l .place)))
       (walks (𝓣 .C) (𝓣 .Λ) (fmOf 𝓤 H (W .laws) 𝓣) known)

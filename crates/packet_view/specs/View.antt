@@ -12,7 +12,7 @@ use Rattle.packet_head.specs.Header.{Control, control}
 use Rattle.packet_head.specs.Block.{typeOf}
 use Rattle.packet_head.specs.Trailer.{Tail, Tail.checksum, tail}
 use Rattle.packet_parse.specs.Frame.{Fields, BlockAt, MacAt, MacAt.noMac, MacAt.macFrom, typeIn, blockStart, blockLen, parseOf}
-use Rattle.packet_view.specs.declared.parts.Outcome.{Outcome}
+use Rattle.packet_view.specs.declared.parts.Verdict.{Verdict}
 use Rattle.packet_view.specs.declared.parts.BlockKind.{BlockKind}
 use Rattle.packet_view.specs.declared.parts.Places.{Places}
 use Rattle.packet_view.specs.declared.view.PacketView.{PacketView}
@@ -40,7 +40,7 @@ macIn (macFrom at) = (at, 4)
 -- ---- what a view tells
 
 pub record Shown : Type 0 where
-  pub outcome : Answer (Unit {0})
+  pub verdict : Answer (Unit {0})
   pub addr : ℕ
   pub ctrl : Control
   pub type : ℕ
@@ -55,7 +55,7 @@ pub record Shown : Type 0 where
 unfoldable pub placesOf : Answer Fields → Shown
 placesOf (given F) =
     record {
-      outcome = given tt;
+      verdict = given tt;
       addr = F .addr;
       ctrl = F .ctrl;
       type = typeIn (F .block);
@@ -68,7 +68,7 @@ placesOf (given F) =
     }
 placesOf (refused n vs) =
     record {
-      outcome = refused n vs;
+      verdict = refused n vs;
       addr = 0;
       ctrl = (0, false, false);
       type = 0;
@@ -93,23 +93,23 @@ blockDataOf s = bytesAt s (λ F. blockIn (F .block)) (parseOf s)
 unfoldable pub payloadOf : List ℕ → List ℕ
 payloadOf s = bytesAt s dataIn (parseOf s)
 
-unfoldable pub macOf : List ℕ → List ℕ
-macOf s = bytesAt s (λ F. macIn (F .mac)) (parseOf s)
+unfoldable pub frameMacOf : List ℕ → List ℕ
+frameMacOf s = bytesAt s (λ F. macIn (F .mac)) (parseOf s)
 
 -- ---- the code's kinds, as the paper has them
 
-abbrev pub outcomeOf : Outcome → Answer (Unit {0})
-outcomeOf Outcome.Accepted = given tt
-outcomeOf (Outcome.Refused e) = refusalOf e
+abbrev pub verdictOf : Verdict → Answer (Unit {0})
+verdictOf Verdict.Accepted = given tt
+verdictOf (Verdict.Refused e) = refusalOf e
 
 abbrev pub kindOf : BlockKind → ℕ
 kindOf BlockKind.Absent = 0
 kindOf (BlockKind.Present ty) = typeOf ty
 
-abbrev pub shown : Places → Shown
-shown p =
+abbrev pub placesTold : Places → Shown
+placesTold p =
     record {
-      outcome = outcomeOf (p .outcome);
+      verdict = verdictOf (p .verdict);
       addr = p .addr .0;
       ctrl = control (p .ctrl);
       type = kindOf (p .block);
@@ -126,7 +126,7 @@ abbrev pub viewed : PacketView → RefT (List ℕ) × Shown
 viewed v = (
   v .frame,
   record {
-    outcome = outcomeOf (v .outcome);
+    verdict = verdictOf (v .verdict);
     addr = v .addr .0;
     ctrl = control (v .ctrl);
     type = kindOf (v .block);

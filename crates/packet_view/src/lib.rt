@@ -3,8 +3,8 @@ mod parts;
 mod view;
 
 pub use parts::BlockKind;
-pub use parts::Outcome;
 pub use parts::Places;
+pub use parts::Verdict;
 pub use parts::part;
 pub use parts::places_in;
 pub use view::PacketView;

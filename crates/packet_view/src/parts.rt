@@ -3,7 +3,7 @@ ghost use mathlib.Core.Path.{_≡_};
 ghost use Rattle.refusal.specs.Paper.{refusalOf};
 ghost use Rattle.packet_parse.specs.Frame.{typeIn, parseOf, fields, blockPlace, macPlace};
 ghost use Rattle.laws.specs.Answer.{Answer.given};
-ghost use Rattle.packet_view.specs.View.{shown, placesOf, kindOf, blockIn, macIn, partOf};
+ghost use Rattle.packet_view.specs.View.{placesTold, placesOf, kindOf, blockIn, macIn, partOf};
 use packet_head::Address;
 use packet_head::ControlByte;
 use packet_head::ScsType;
@@ -16,7 +16,7 @@ use packet_parse::ParsedPacket;
 use packet_parse::parse;
 use refusal::Refusal;
 
-pub enum Outcome {
+pub enum Verdict {
     Accepted,
     Refused(Refusal),
 }
@@ -28,7 +28,7 @@ pub enum BlockKind {
 
 // Each place is counted from the frame's first byte. A part that is not there has the length 0.
 pub struct Places {
-    pub outcome: Outcome,
+    pub verdict: Verdict,
     pub addr: Address,
     pub ctrl: ControlByte,
     pub block: BlockKind,
@@ -80,7 +80,7 @@ fn mac_span(m: MacPart) -> Span
 }
 
 fn accepted(p: ParsedPacket) -> Places
-    ensures { λ r. ⌜ shown r ≡ placesOf (given (fields p)) ⌝ }
+    ensures { λ r. ⌜ placesTold r ≡ placesOf (given (fields p)) ⌝ }
 {
     let addr = p.addr;
     let ctrl = p.ctrl;
@@ -90,7 +90,7 @@ fn accepted(p: ParsedPacket) -> Places
     let block = block_span(b);
     let mac = mac_span(m);
     Places {
-        outcome: Outcome::Accepted,
+        verdict: Verdict::Accepted,
         addr,
         ctrl,
         block: block_kind(b),
@@ -108,10 +108,10 @@ fn accepted(p: ParsedPacket) -> Places
 
 // Nothing is told but the refusal, and every part is empty.
 fn refused(e: Refusal) -> Places
-    ensures { λ r. ⌜ shown r ≡ placesOf (refusalOf e) ⌝ }
+    ensures { λ r. ⌜ placesTold r ≡ placesOf (refusalOf e) ⌝ }
 {
     Places {
-        outcome: Outcome::Refused(e),
+        verdict: Verdict::Refused(e),
         addr: Address::from_raw(0),
         ctrl: ControlByte::new(Sqn::ZERO, false, false),
         block: BlockKind::Absent,
@@ -129,7 +129,7 @@ fn refused(e: Refusal) -> Places
 
 // Where the parts of the frame at the start of buf stand.
 pub fn places_in(buf: &[u8]) -> Places
-    ensures { λ r. ⌜ shown r ≡ placesOf (parseOf (now (buf .entry))) ⌝ }
+    ensures { λ r. ⌜ placesTold r ≡ placesOf (parseOf (now (buf .entry))) ⌝ }
 {
     match parse(buf) {
         Parsed::Good(p) => accepted(p),

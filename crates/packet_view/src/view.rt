@@ -1,9 +1,9 @@
 // The view. Its functions take it apart and call those on the slice and the numbers.
 ghost use mathlib.Core.Path.{_≡_};
 ghost use Rattle.packet_parse.specs.Frame.{parseOf};
-ghost use Rattle.packet_view.specs.View.{placesOf, viewed, partOf, blockDataOf, payloadOf, macOf};
+ghost use Rattle.packet_view.specs.View.{placesOf, viewed, partOf, blockDataOf, payloadOf, frameMacOf};
 use super::parts::BlockKind;
-use super::parts::Outcome;
+use super::parts::Verdict;
 use super::parts::part;
 use super::parts::places_in;
 use packet_head::Address;
@@ -12,7 +12,7 @@ use packet_head::Trailer;
 
 pub struct PacketView<'a> {
     pub frame: &'a [u8],
-    pub outcome: Outcome,
+    pub verdict: Verdict,
     pub addr: Address,
     pub ctrl: ControlByte,
     pub block: BlockKind,
@@ -35,7 +35,7 @@ impl<'a> PacketView<'a> {
         let p = places_in(frame);
         PacketView {
             frame,
-            outcome: p.outcome,
+            verdict: p.verdict,
             addr: p.addr,
             ctrl: p.ctrl,
             block: p.block,
@@ -84,7 +84,7 @@ pub fn payload_in(frame: &[u8]) -> &[u8]
 }
 
 pub fn mac_in(frame: &[u8]) -> &[u8]
-    ensures { λ r. ⌜ now r ≡ macOf (now (frame .entry)) ⌝ }
+    ensures { λ r. ⌜ now r ≡ frameMacOf (now (frame .entry)) ⌝ }
 {
     PacketView::parse(frame).mac()
 }

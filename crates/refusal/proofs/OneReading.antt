@@ -35,11 +35,11 @@ named n vs =
     (cond (eqb n 18) (NoRoom (getD vs 0 0) (getD vs 1 0))
     (WrongState))))))))))))))))))
 
-abbrev pub back : Answer ℕ → Refusal
-back (given n) = WrongState
-back (refused n vs) = named n vs
+abbrev pub refusalBack : Answer ℕ → Refusal
+refusalBack (given n) = WrongState
+refusalBack (refused n vs) = named n vs
 
-pub told-back : (r : Refusal) → back (refusalOf r) ≡ r
+pub told-back : (r : Refusal) → refusalBack (refusalOf r) ≡ r
 told-back (Truncated x y) = refl
 told-back (BadSom x) = refl
 told-back (BadControlByte x) = refl
@@ -60,4 +60,4 @@ told-back (BlockTooLong x) = refl
 told-back (NoRoom x y) = refl
 
 pub same-refusal : (r s : Refusal) → _≡_ {A = Answer ℕ} (refusalOf r) (refusalOf s) → r ≡ s
-same-refusal = one-reading refusalOf back told-back
+same-refusal = one-reading refusalOf refusalBack told-back

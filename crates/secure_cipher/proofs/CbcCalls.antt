@@ -13,24 +13,24 @@ use Rattle.laws.specs.Blocks.{Block, blocks, flat}
 use Rattle.laws.specs.Over.{write}
 use Rattle.laws.proofs.Overwrite.{take-write}
 use Rattle.secure_cipher.specs.Pad.{padData, unpad}
-use Rattle.secure_cipher.specs.Cbc.{Done, Run, Opening, decRun, hide, reveal, encryptOf, decryptOf, openedInto, wiped, laid}
+use Rattle.secure_cipher.specs.Cbc.{Done, CbcRun, Opening, decRun, hide, reveal, encryptOf, decryptOf, openedInto, wiped, laid}
 use Rattle.secure_cipher.specs.Parts.{badPadding, Deciphered}
 use Rattle.secure_cipher.proofs.CbcLaws.{length-hide, reveal-hide}
 use Rattle.secure_cipher.proofs.PadLaws.{padData-front, unpad-refused, unpad-less, unpad-clear}
 
-abbrev done : Answer ℕ → List ℕ → ℕ → Done
-done a o n = record { answer = a; out = o; steps = n }
+abbrev cipherDone : Answer ℕ → List ℕ → ℕ → Done
+cipherDone a o n = record { answer = a; out = o; steps = n }
 
 -- ---- enciphering
 
 module _ (k v x o : List ℕ) (need : ℕ) (e : need ≡ length (padData x)) where
-  pub encrypt-short : length o < need → done (refused 18 (need ∷ length o ∷ [])) o 0 ≡ encryptOf k v x o
+  pub encrypt-short : length o < need → cipherDone (refused 18 (need ∷ length o ∷ [])) o 0 ≡ encryptOf k v x o
   unfolding encryptOf
   encrypt-short h = rw (← e, lt-ltb (length o) need h)
 
-  pub encrypt-good : (o₂ : List ℕ) (n : ℕ) → need ≤ length o → o₂ ≡ write o 0 (hide k v x .bytes) → n ≡ hide k v x .steps → done (given need) o₂ n ≡ encryptOf k v x o
+  pub encrypt-good : (o₂ : List ℕ) (n : ℕ) → need ≤ length o → o₂ ≡ write o 0 (hide k v x .bytes) → n ≡ hide k v x .steps → cipherDone (given need) o₂ n ≡ encryptOf k v x o
   unfolding encryptOf
-  encrypt-good o₂ n h eo en = rw (← e, le-ltb (length o) need h) (ap₂ (done (given need)) eo en)
+  encrypt-good o₂ n h eo en = rw (← e, le-ltb (length o) need h) (ap₂ (cipherDone (given need)) eo en)
 
 -- ---- a buffer written twice
 
@@ -47,13 +47,13 @@ set-over o s i v h = set-append-left s (drop (0 + length s) o) i v h ∙ ap (λ 
 -- ---- deciphering
 
 module _ (k v c o : List ℕ) where
-  pub decrypt-short : length o < length c → done (refused 18 (length c ∷ length o ∷ [])) o 0 ≡ decryptOf k v c o
+  pub decrypt-short : length o < length c → cipherDone (refused 18 (length c ∷ length o ∷ [])) o 0 ≡ decryptOf k v c o
   unfolding decryptOf
   decrypt-short h = rw (lt-ltb (length o) (length c) h)
 
   -- what an opening that was read comes to
   opened : Opening → Done
-  opened p = done (p .answer) (openedInto (length c) p (p .answer) o) (p .steps)
+  opened p = cipherDone (p .answer) (openedInto (length c) p (p .answer) o) (p .steps)
 
   decrypt-from : (p : Opening) → length c ≤ length o → reveal k v c ≡ p → decryptOf k v c o ≡ opened p
   unfolding decryptOf opened
@@ -90,20 +90,20 @@ module _ (k v c o : List ℕ) where
     pub decrypt-bad : (j : ℕ) (vs : List ℕ) → refused j vs ≡ unpad (flat (decRun k v (blocks c) .out)) → badPadding (length c) o₁ n ≡ decryptOf k v c o
     unfolding opened openedInto wiped text
     decrypt-bad j vs e =
-        ap (λ (x : List ℕ). done (refused 14 []) x n)
+        ap (λ (x : List ℕ). cipherDone (refused 14 []) x n)
         (ap (λ (x : List ℕ). write x 0 (zeros (length c))) w ∙ over o text (zeros (length c)) (m ∙ sym (length-replicate {A = ℕ} (length c) 0)))
         ∙ sym (decrypt-from _ h (reveal-blocks (refused 14 []) (unpad-refused text j vs (sym e))))
 
-    pub decrypt-good : (j : ℕ) → given j ≡ unpad (flat (decRun k v (blocks c) .out)) → done (given j) (set o₁ j 0) n ≡ decryptOf k v c o
+    pub decrypt-good : (j : ℕ) → given j ≡ unpad (flat (decRun k v (blocks c) .out)) → cipherDone (given j) (set o₁ j 0) n ≡ decryptOf k v c o
     unfolding opened openedInto laid text
     decrypt-good j e =
-        ap (λ (x : List ℕ). done (given j) x n)
+        ap (λ (x : List ℕ). cipherDone (given j) x n)
         (ap (λ (x : List ℕ). set x j 0) w ∙ set-over o text j 0 (unpad-less text j (sym e))
         ∙ ap (write o 0) (unpad-clear text j (sym e) ∙ ap (λ (z : ℕ). take j text ++ zeros (z - j)) m))
         ∙ sym (decrypt-from _ h (reveal-blocks (given j) (sym e)))
 
 -- the front of the buffer is what the blocks decipher to
-pub read-text : {r : Run} {n : ℕ} {before after : List ℕ} {steps : ℕ} → Deciphered r n before after steps → take n after ≡ flat (r .out)
+pub read-text : {r : CbcRun} {n : ℕ} {before after : List ℕ} {steps : ℕ} → Deciphered r n before after steps → take n after ≡ flat (r .out)
 read-text {r} {n} {before} {after} d = ap (take n) (d .here) ∙ take-write before n (flat (r .out)) (sym (d .size))
 
 -- ---- read back: what was enciphered is deciphered to the payload, with zeros behind it
@@ -115,4 +115,4 @@ module _ (k v x o : List ℕ) (hk : Block k) (hv : Block v) (hx : Bytes x) where
   decrypt-hide h =
       let n = length-hide k v x hk hv hx in
       decrypt-from k v (hide k v x .bytes) o _ (omega arith) (reveal-hide k v x hk hv hx)
-      ∙ ap₂ (λ (y : List ℕ) (m : ℕ). done (given (length x)) (write o 0 (y ++ zeros (m - length x))) (length x / 16 + 1)) (padData-front x) n
+      ∙ ap₂ (λ (y : List ℕ) (m : ℕ). cipherDone (given (length x)) (write o 0 (y ++ zeros (m - length x))) (length x / 16 + 1)) (padData-front x) n

@@ -13,7 +13,7 @@ use Rattle.aes.specs.Cipher.{E, D}
 use Rattle.secure_cipher.specs.Pad.{padData}
 use Rattle.secure_cipher.specs.Cbc.{encRun, decRun, hide}
 use Rattle.secure_cipher.proofs.PadLaws.{length-padData}
-use Rattle.secure_cipher.proofs.Turns.{left, left-all, left-next, left-none}
+use Rattle.secure_cipher.proofs.Turns.{blocksLeft, left-all, left-next, left-none}
 
 -- ---- the buffer: `at` bytes are written over o₀, and with the rest they make the target
 
@@ -47,10 +47,10 @@ module _ {o₀ : List ℕ} {at : ℕ} {rest target o : List ℕ} (p : Laid o₀ 
 -- ---- what is left to write, with i of n blocks of p done and v the last value of the chain
 
 abbrev pub encRest : List ℕ → List ℕ → ℕ → ℕ → List ℕ → List ℕ
-encRest k p n i v = flat (encRun k v (left p n i) .out)
+encRest k p n i v = flat (encRun k v (blocksLeft p n i) .out)
 
 abbrev pub decRest : List ℕ → List ℕ → ℕ → ℕ → List ℕ → List ℕ
-decRest k p n i v = flat (decRun k v (left p n i) .out)
+decRest k p n i v = flat (decRun k v (blocksLeft p n i) .out)
 
 enc-cons : (k v b c : List ℕ) (bs : List (List ℕ)) → c ≡ E k (xorl b v) → flat (encRun k v (b ∷ bs) .out) ≡ c ++ flat (encRun k c bs .out)
 unfolding encRun flat

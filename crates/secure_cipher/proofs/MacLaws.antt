@@ -14,7 +14,7 @@ use Rattle.aes.proofs.Laws.{E-block}
 use Rattle.secure_cipher.specs.Pad.{padMac, padData, tail80}
 use Rattle.secure_cipher.specs.Mac.{keyFor, macRun, macOf}
 use Rattle.secure_cipher.specs.Parts.{chained}
-use Rattle.secure_cipher.proofs.Turns.{left, cut-none, left-all, left-next, left-none}
+use Rattle.secure_cipher.proofs.Turns.{blocksLeft, cut-none, left-all, left-next, left-none}
 use Rattle.secure_cipher.proofs.PadLaws.{padMac-by, length-padMac, bytes-padMac}
 
 -- ---- laws for the theory above
@@ -54,7 +54,7 @@ chained-cons k v b bs = refl
 
 -- what the blocks that are left make of v
 abbrev pub chainedFrom : List ℕ → List ℕ → ℕ → ℕ → List ℕ → List ℕ
-chainedFrom k s n i v = chained k v (left s n i)
+chainedFrom k s n i v = chained k v (blocksLeft s n i)
 
 pub chain-zero : (k s : List ℕ) (n : ℕ) (v : List ℕ) → n ≡ 0 → v ≡ chained k v (cut n s)
 chain-zero k s n v h = sym (rw (h, cut-none) (chained-none k v))

@@ -14,10 +14,10 @@ use lib.Seq.{take-append-seam, getD-append-seam, getD-append-add, take-append-le
 use Rattle.laws.specs.Answer.{Answer.given, Answer.refused}
 use Rattle.laws.specs.Bytes.{Bytes, zeros}
 use Rattle.laws.specs.Over.{write}
-use Rattle.laws.proofs.Answers.{refuse-true, refuse-false}
+use Rattle.laws.proofs.Answers.{given-refused, refuse-true, refuse-false}
 use Rattle.laws.proofs.Overwrite.{write-write, length-write}
 use Rattle.laws.proofs.ByteLists.{bytes-append, bytes-cons, bytes-zeros}
-use Rattle.secure_cipher.specs.Pad.{tail80, padMac, padData, unpadFrom, unpad, fits}
+use Rattle.secure_cipher.specs.Pad.{tail80, padMac, padData, unpadFrom, unpad, roomFor}
 
 -- ---- the data's padding
 
@@ -122,7 +122,7 @@ unpad-none l i h = rw h
 refused-step : (l : List ℕ) (i n : ℕ) (vs : List ℕ) (s t : Bool) → (unpadFrom i l ≡ refused n vs → unpadFrom i l ≡ refused 14 [])
     → cond s (unpadFrom i l) (cond t (given i) (refused 14 [])) ≡ refused n vs → cond s (unpadFrom i l) (cond t (given i) (refused 14 [])) ≡ refused 14 []
 refused-step l i n vs true t r f = r f
-refused-step l i n vs false true r f = absurd (let z : _≡_ {A = ℕ} 0 1 = cc in omega arith)
+refused-step l i n vs false true r f = absurd (given-refused f)
 refused-step l i n vs false false r f = refl
 
 refused-from : (l : List ℕ) (i n : ℕ) (vs : List ℕ) → unpadFrom i l ≡ refused n vs → unpadFrom i l ≡ refused 14 []
@@ -165,11 +165,11 @@ padded-step l i j true t h r hs ht f = padded-more l i j h (eqb-true (getD l i 0
 padded-step l i j false true h r hs ht f =
     let z : i ≡ j = cc in
     rw (← z) (padded-found l i h (eqb-true (getD l i 0) 0x80 ht))
-padded-step l i j false false h r hs ht f = absurd (let z : _≡_ {A = ℕ} 0 1 = cc in omega arith)
+padded-step l i j false false h r hs ht f = absurd (given-refused (sym f))
 
 padded-from : (l : List ℕ) (i j : ℕ) → i ≤ length l → unpadFrom i l ≡ given j → Padded l i j
 unfolding unpadFrom
-padded-from l zero j h e = absurd (let z : _≡_ {A = ℕ} 0 1 = cc in omega arith)
+padded-from l zero j h e = absurd (given-refused (sym e))
 padded-from l (suc i) j h e = padded-step l i j (eqb (getD l i 0) 0) (eqb (getD l i 0) 0x80) h (padded-from l i j (omega arith)) refl refl e
 
 -- with its 80 set to zero, a padded list is what was padded, and zeros
@@ -207,10 +207,10 @@ last-made s o at rest ea er eo =
 -- ---- the calls
 
 module _ (x o : List ℕ) (need : ℕ) (e : need ≡ length x) where
-  pub fits-short : length o < need → refused 18 (need ∷ length o ∷ []) ≡ fits x o
+  pub fits-short : length o < need → refused 18 (need ∷ length o ∷ []) ≡ roomFor x o
   fits-short h = rw (← e, lt-ltb (length o) need h) (sym (refuse-true true 18 (need ∷ length o ∷ []) (given need) refl))
 
-  pub fits-good : need ≤ length o → given need ≡ fits x o
+  pub fits-good : need ≤ length o → given need ≡ roomFor x o
   fits-good h = rw (← e, le-ltb (length o) need h) (sym (refuse-false false 18 (need ∷ length o ∷ []) (given need) refl))
 
 set-write : (o : List ℕ) (n v : ℕ) → n < length o → set o n v ≡ write o n (v ∷ [])

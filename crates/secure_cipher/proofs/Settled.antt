@@ -6,9 +6,9 @@ use Prim.Native.Nat.{ℕ}
 use Rattle.laws.specs.Answer.{Answer, Answer.given, Answer.refused}
 use Rattle.laws.proofs.Answers.{one-reading}
 use Rattle.refusal.proofs.OneReading.{named, told-back}
-use Rattle.secure_cipher.specs.Pad.{fits, after, lengthAnswer}
-use Rattle.secure_cipher.specs.Mac.{told as macTold}
-use Rattle.secure_cipher.specs.Cbc.{Done, told as cipherTold}
+use Rattle.secure_cipher.specs.Pad.{roomFor, paddedInto, lengthAnswer}
+use Rattle.secure_cipher.specs.Mac.{macTold as macTold}
+use Rattle.secure_cipher.specs.Cbc.{Done, cipherTold as cipherTold}
 use Rattle.secure_cipher.specs.declared.pad.LengthAnswer.{LengthAnswer}
 use Rattle.secure_cipher.specs.declared.mac.ChainMac.{ChainMac}
 use Rattle.secure_cipher.specs.declared.cipher.Ciphered.{Ciphered}
@@ -25,11 +25,11 @@ pub length-settled : (r s : LengthAnswer) → lengthAnswer r ≡ lengthAnswer s 
 length-settled = one-reading lengthAnswer lengthFrom length-back
 
 -- a padding of x into a buffer o: answer and buffer
-pub pad-settled : (x o : List ℕ) (r s : LengthAnswer) (p q : List ℕ) → lengthAnswer r ≡ fits x o → lengthAnswer s ≡ fits x o
-    → p ≡ after (lengthAnswer r) x o → q ≡ after (lengthAnswer s) x o → (r ≡ s) × (p ≡ q)
+pub pad-settled : (x o : List ℕ) (r s : LengthAnswer) (p q : List ℕ) → lengthAnswer r ≡ roomFor x o → lengthAnswer s ≡ roomFor x o
+    → p ≡ paddedInto (lengthAnswer r) x o → q ≡ paddedInto (lengthAnswer s) x o → (r ≡ s) × (p ≡ q)
 pad-settled x o r s p q er es ep eq =
     let e : lengthAnswer r ≡ lengthAnswer s = er ∙ sym es in
-    (length-settled r s e, ep ∙ ap (λ (a : Answer ℕ). after a x o) e ∙ sym eq)
+    (length-settled r s e, ep ∙ ap (λ (a : Answer ℕ). paddedInto a x o) e ∙ sym eq)
 
 -- the chain MAC
 pub mac-settled : (r s : ChainMac) → macTold r ≡ macTold s → r ≡ s

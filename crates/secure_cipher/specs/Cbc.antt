@@ -15,12 +15,12 @@ use Rattle.secure_cipher.specs.Pad.{padData, unpad, lengthAnswer}
 use Rattle.secure_cipher.specs.declared.cipher.Ciphered.{Ciphered}
 
 -- blocks, and how often the cipher was called for them
-pub record Run : Type 0 where
+pub record CbcRun : Type 0 where
   pub out : List (List ℕ)
   pub steps : ℕ
 
 -- C_1 = CIPH_K (P_1 ⊕ IV), C_j = CIPH_K (P_j ⊕ C_{j-1})
-unfoldable pub encRun : List ℕ → List ℕ → List (List ℕ) → Run
+unfoldable pub encRun : List ℕ → List ℕ → List (List ℕ) → CbcRun
 encRun k v [] = record { out = []; steps = 0 }
 encRun k v (b ∷ bs) =
     let c = E k (xorl b v) in
@@ -28,7 +28,7 @@ encRun k v (b ∷ bs) =
     record { out = c ∷ r .out; steps = suc (r .steps) }
 
 -- P_1 = CIPH⁻¹_K (C_1) ⊕ IV, P_j = CIPH⁻¹_K (C_j) ⊕ C_{j-1}
-unfoldable pub decRun : List ℕ → List ℕ → List (List ℕ) → Run
+unfoldable pub decRun : List ℕ → List ℕ → List (List ℕ) → CbcRun
 decRun k v [] = record { out = []; steps = 0 }
 decRun k v (c ∷ cs) =
     let r = decRun k c cs in
@@ -63,8 +63,8 @@ pub record Done : Type 0 where
   pub out : List ℕ
   pub steps : ℕ
 
-abbrev stop : ℕ → List ℕ → List ℕ → Done
-stop n vs o = record { answer = refused n vs; out = o; steps = 0 }
+abbrev cipherStop : ℕ → List ℕ → List ℕ → Done
+cipherStop n vs o = record { answer = refused n vs; out = o; steps = 0 }
 
 -- how long n bytes of payload become
 abbrev pub hiddenLen : List ℕ → ℕ
@@ -74,7 +74,7 @@ hiddenLen x = length (padData x)
 unfoldable pub encryptOf : List ℕ → List ℕ → List ℕ → List ℕ → Done
 encryptOf k v x o =
     let h = hide k v x in
-    cond (ltb (length o) (hiddenLen x)) (stop 18 (hiddenLen x ∷ length o ∷ []) o)
+    cond (ltb (length o) (hiddenLen x)) (cipherStop 18 (hiddenLen x ∷ length o ∷ []) o)
     (record { answer = given (hiddenLen x); out = write o 0 (h .bytes); steps = h .steps })
 
 -- n bytes at the front of the buffer wiped
@@ -94,10 +94,10 @@ openedInto n p (refused m vs) o = wiped n o
 unfoldable pub decryptOf : List ℕ → List ℕ → List ℕ → List ℕ → Done
 decryptOf k v c o =
     let p = reveal k v c in
-    cond (ltb (length o) (length c)) (stop 18 (length c ∷ length o ∷ []) o)
+    cond (ltb (length o) (length c)) (cipherStop 18 (length c ∷ length o ∷ []) o)
     (record { answer = p .answer; out = openedInto (length c) p (p .answer) o; steps = p .steps })
 
 -- ---- the code's answer, as the paper has it; `o` is the buffer in the end
 
-abbrev pub told : Ciphered → List ℕ → Done
-told r o = record { answer = lengthAnswer (r .answer); out = o; steps = r .calls }
+abbrev pub cipherTold : Ciphered → List ℕ → Done
+cipherTold r o = record { answer = lengthAnswer (r .answer); out = o; steps = r .calls }

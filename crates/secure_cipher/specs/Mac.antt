@@ -30,5 +30,5 @@ macOf k₁ k₂ v l = macRun k₁ k₂ v (blocks (padMac l))
 
 -- ---- the code's answer, as the paper has it
 
-abbrev pub told : ChainMac → Mac
-told m = record { full = m .full; steps = m .calls }
+abbrev pub macTold : ChainMac → Mac
+macTold m = record { full = m .full; steps = m .calls }

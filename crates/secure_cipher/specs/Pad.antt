@@ -35,13 +35,13 @@ unpad l = unpadFrom (length l) l
 
 -- ---- the calls: into a buffer o, 18 (need, have)
 
-abbrev pub fits : List ℕ → List ℕ → Answer ℕ
-fits x o = refuseIf (ltb (length o) (length x)) 18 (length x ∷ length o ∷ []) (given (length x))
+abbrev pub roomFor : List ℕ → List ℕ → Answer ℕ
+roomFor x o = refuseIf (ltb (length o) (length x)) 18 (length x ∷ length o ∷ []) (given (length x))
 
 -- what the buffer holds in the end
-abbrev pub after : Answer ℕ → List ℕ → List ℕ → List ℕ
-after (given n) x o = write o 0 x
-after (refused n vs) x o = o
+abbrev pub paddedInto : Answer ℕ → List ℕ → List ℕ → List ℕ
+paddedInto (given n) x o = write o 0 x
+paddedInto (refused n vs) x o = o
 
 -- ---- the code's answer, as the paper has it
 

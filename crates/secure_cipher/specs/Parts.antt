@@ -9,7 +9,7 @@ use Rattle.laws.specs.Blocks.{flat}
 use Rattle.laws.specs.Over.{write}
 use Rattle.laws.specs.Bytes.{xorl}
 use Rattle.aes.specs.Cipher.{E}
-use Rattle.secure_cipher.specs.Cbc.{Done, Run, wiped}
+use Rattle.secure_cipher.specs.Cbc.{Done, CbcRun, wiped}
 
 -- the value after blocks that are chained under one key, from v on
 unfoldable pub chained : List ℕ → List ℕ → List (List ℕ) → List ℕ
@@ -17,7 +17,7 @@ chained k v [] = v
 chained k v (b ∷ bs) = chained k (E k (xorl v b)) bs
 
 -- the blocks of a run, n bytes, at the front of the buffer, and the run's steps counted
-pub record Deciphered (r : Run) (n : ℕ) (before after : List ℕ) (steps : ℕ) : Type 0 where
+pub record Deciphered (r : CbcRun) (n : ℕ) (before after : List ℕ) (steps : ℕ) : Type 0 where
   pub size : length (flat (r .out)) ≡ n
   pub here : after ≡ write before 0 (flat (r .out))
   pub counted : steps ≡ r .steps

@@ -6,7 +6,7 @@ ghost use Rattle.laws.specs.Bytes.{compl};
 ghost use Rattle.laws.specs.Blocks.{blocks};
 ghost use Rattle.laws.specs.Over.{write};
 ghost use Rattle.secure_cipher.specs.Pad.{padData};
-ghost use Rattle.secure_cipher.specs.Cbc.{hide, decRun, encryptOf, decryptOf, told};
+ghost use Rattle.secure_cipher.specs.Cbc.{hide, decRun, encryptOf, decryptOf, cipherTold};
 ghost use Rattle.secure_cipher.specs.Parts.{badPadding, Deciphered};
 use super::block;
 use super::pad;
@@ -37,7 +37,7 @@ fn data_block(s: &[u8], at: usize) -> [u8; 16]
     if 16 <= s.len() - at {
         block::block_at(s, at)
     } else {
-        pad::last_block(s)
+        pad::last_data_block(s)
     }
 }
 
@@ -61,7 +61,7 @@ fn encrypt_blocks(key: [u8; 16], iv: [u8; 16], data: &[u8], out: &mut [u8]) -> u
 
 // Pads and enciphers data into out.
 pub fn encrypt_data(s_enc: [u8; 16], iv: [u8; 16], data: &[u8], out: &mut [u8]) -> Ciphered
-    ensures { λ r. ⌜ told r (now (out .exit)) ≡ encryptOf «s_enc» iv (now («data» .entry)) (now (out .entry)) ⌝ }
+    ensures { λ r. ⌜ cipherTold r (now (out .exit)) ≡ encryptOf «s_enc» iv (now («data» .entry)) (now (out .entry)) ⌝ }
 {
     let need = data.len() / 16 * 16 + 16;
     if out.len() < need {
@@ -102,7 +102,7 @@ fn decrypt_blocks(key: [u8; 16], iv: [u8; 16], ct: &[u8], out: &mut [u8]) -> usi
 // Refuses by 14, with the first n bytes of out wiped.
 fn bad_padding(out: &mut [u8], n: usize, calls: usize) -> Ciphered
     requires { ⌜ n ≤ length (now out) ⌝ }
-    ensures { λ r. ⌜ told r (now (out .exit)) ≡ badPadding n (now (out .entry)) calls ⌝ }
+    ensures { λ r. ⌜ cipherTold r (now (out .exit)) ≡ badPadding n (now (out .entry)) calls ⌝ }
 {
     block::zero(out, 0, n);
     Ciphered {
@@ -113,7 +113,7 @@ fn bad_padding(out: &mut [u8], n: usize, calls: usize) -> Ciphered
 
 // Deciphers ct into out and unpads it; a refusal by 14 leaves nothing of a plaintext behind.
 pub fn decrypt_data(s_enc: [u8; 16], iv: [u8; 16], ct: &[u8], out: &mut [u8]) -> Ciphered
-    ensures { λ r. ⌜ told r (now (out .exit)) ≡ decryptOf «s_enc» iv (now (ct .entry)) (now (out .entry)) ⌝ }
+    ensures { λ r. ⌜ cipherTold r (now (out .exit)) ≡ decryptOf «s_enc» iv (now (ct .entry)) (now (out .entry)) ⌝ }
 {
     let n = ct.len();
     if out.len() < n {

@@ -5,7 +5,7 @@ ghost use lib.ListN.{length, take, drop};
 ghost use Rattle.laws.specs.Blocks.{cut};
 ghost use Rattle.aes_field.specs.Sbox.{SBOX};
 ghost use Rattle.secure_cipher.specs.Pad.{padMac};
-ghost use Rattle.secure_cipher.specs.Mac.{macOf, told};
+ghost use Rattle.secure_cipher.specs.Mac.{macOf, macTold};
 ghost use Rattle.secure_cipher.specs.Parts.{chained};
 use super::block;
 use super::pad;
@@ -35,19 +35,19 @@ fn chain(t: &[u8; 256], key: [u8; 16], icv: [u8; 16], s: &[u8], n: usize) -> [u8
 }
 
 // The last block of s padded for the MAC.
-fn last_block(s: &[u8]) -> [u8; 16]
+fn last_mac_block(s: &[u8]) -> [u8; 16]
     requires { ⌜ 0 < length (now s) ⌝ }
     ensures { λ r. ⌜ r ≡ take 16 (drop ((length (now (s .entry)) - 1) / 16 * 16) (padMac (now (s .entry)))) ⌝ }
 {
     if s.len() % 16 == 0 {
         block::block_at(s, s.len() - 16)
     } else {
-        pad::last_block(s)
+        pad::last_data_block(s)
     }
 }
 
 pub fn cbc_mac(input: &[u8], icv: [u8; 16], s_mac1: [u8; 16], s_mac2: [u8; 16]) -> ChainMac
-    ensures { λ r. ⌜ told r ≡ macOf «s_mac1» «s_mac2» icv (now (input .entry)) ⌝ }
+    ensures { λ r. ⌜ macTold r ≡ macOf «s_mac1» «s_mac2» icv (now (input .entry)) ⌝ }
 {
     if input.len() == 0 {
         return ChainMac {
@@ -59,7 +59,7 @@ pub fn cbc_mac(input: &[u8], icv: [u8; 16], s_mac1: [u8; 16], s_mac2: [u8; 16]) 
     let before = (input.len() - 1) / 16;
     let v = chain(&t, s_mac1, icv, input, before);
     let w = aes::expand(&t, s_mac2);
-    let full = aes::encrypt_with(&w, &t, block::xor(v, last_block(input)));
+    let full = aes::encrypt_with(&w, &t, block::xor(v, last_mac_block(input)));
     ChainMac {
         full,
         calls: before + 1,

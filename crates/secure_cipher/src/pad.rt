@@ -2,7 +2,7 @@
 ghost use mathlib.Core.Path.{_≡_};
 ghost use Prim.Native.Nat.{_*_, _/_};
 ghost use lib.ListN.{length, drop};
-ghost use Rattle.secure_cipher.specs.Pad.{padMac, padData, unpad, fits, after, lengthAnswer};
+ghost use Rattle.secure_cipher.specs.Pad.{padMac, padData, unpad, roomFor, paddedInto, lengthAnswer};
 use super::block;
 use refusal::Refusal;
 
@@ -13,8 +13,8 @@ pub enum LengthAnswer {
 
 // For the MAC: nothing is added at a multiple of 16.
 pub fn pad_mac(data: &[u8], out: &mut [u8]) -> LengthAnswer
-    ensures { λ r. ⌜ lengthAnswer r ≡ fits (padMac (now («data» .entry))) (now (out .entry)) ⌝ }
-    ensures { λ r. ⌜ now (out .exit) ≡ after (lengthAnswer r) (padMac (now («data» .entry))) (now (out .entry)) ⌝ }
+    ensures { λ r. ⌜ lengthAnswer r ≡ roomFor (padMac (now («data» .entry))) (now (out .entry)) ⌝ }
+    ensures { λ r. ⌜ now (out .exit) ≡ paddedInto (lengthAnswer r) (padMac (now («data» .entry))) (now (out .entry)) ⌝ }
 {
     let n = data.len();
     if n % 16 != 0 {
@@ -32,8 +32,8 @@ pub fn pad_mac(data: &[u8], out: &mut [u8]) -> LengthAnswer
 
 // For encrypted data: always at least the 80.
 pub fn pad_data(data: &[u8], out: &mut [u8]) -> LengthAnswer
-    ensures { λ r. ⌜ lengthAnswer r ≡ fits (padData (now («data» .entry))) (now (out .entry)) ⌝ }
-    ensures { λ r. ⌜ now (out .exit) ≡ after (lengthAnswer r) (padData (now («data» .entry))) (now (out .entry)) ⌝ }
+    ensures { λ r. ⌜ lengthAnswer r ≡ roomFor (padData (now («data» .entry))) (now (out .entry)) ⌝ }
+    ensures { λ r. ⌜ now (out .exit) ≡ paddedInto (lengthAnswer r) (padData (now («data» .entry))) (now (out .entry)) ⌝ }
 {
     let n = data.len();
     let need = n / 16 * 16 + 16;
@@ -69,7 +69,7 @@ pub fn unpad_data(buf: &[u8]) -> LengthAnswer
 }
 
 // The last block of s padded as data: what is left after the whole blocks, 80, zeros.
-pub(crate) fn last_block(s: &[u8]) -> [u8; 16]
+pub(crate) fn last_data_block(s: &[u8]) -> [u8; 16]
     ensures { λ r. ⌜ r ≡ drop (length (now (s .entry)) / 16 * 16) (padData (now (s .entry))) ⌝ }
 {
     let at = s.len() / 16 * 16;

@@ -41,8 +41,8 @@ a-byte = record { low = vint w8; tells = uint-tells w8; typed = λ 𝓤 H A W x 
 abbrev pub a-bool : Datum bool tyBool
 a-bool = record { low = vbool; tells = bool-tells; typed = λ 𝓤 H A W x is. bool-lawful 𝓤 H A W .typed x _ is .0 }
 
-abbrev pub bytes : (n : ℕ) → Datum (Array u8 tt n) (tyArray (tyInt w8) n)
-bytes n = record {
+abbrev pub byteArray : (n : ℕ) → Datum (Array u8 tt n) (tyArray (tyInt w8) n)
+byteArray n = record {
   low = λ xs. arrayVal (map (vint w8) xs);
   tells = array-laws u8-field u8-laws n .tells;
   typed = λ 𝓤 H A W x is. array-lawful 𝓤 H A W u8 (uint-lawful 𝓤 H A W w8) n .typed x _ is .0;

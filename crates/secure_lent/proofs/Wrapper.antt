@@ -37,11 +37,11 @@ use Rattle.secure_session.specs.declared.session.Session.{Session}
 use Rattle.secure_session.proofs.session.Session as T
 use Rattle.secure_session.proofs.session.Session.Laws as T′
 use Rattle.secure_lent.proofs.Lending.{Result, lentTy, near, takes, calls-stores}
-use Rattle.secure_lent.proofs.Locals.{lets, past, Blocks, envs, rooms, alloc-all, free-all, emptied, From, Stand, from-two, from-here, from-next, from-past}
-use Rattle.secure_lent.proofs.Passed.{Passed, inner, outer, slots, tys, Told, told, Values, words, spells, outer-vals, inner-vals, Related, below, ends, told-same, tells-all, saids, fits-said, goes-said, handed, returned}
+use Rattle.secure_lent.proofs.Locals.{lets, pastLocals, LocalBlocks, envs, rooms, alloc-all, free-all, emptied, From, Stand, from-two, from-here, from-next, from-past}
+use Rattle.secure_lent.proofs.Passed.{Passed, inner, outer, slots, tys, OfValues, atValues, Values, value-words, spells, outer-vals, inner-vals, Related, to-callee, ends, same-clause, tells-all, saids, fits-said, goes-said, handed, returned}
 use Rattle.secure_lent.proofs.Passing.{temps, temp-words, lends, operands, as-if, pass-all, lends-all, reads-all}
 
-module _ {n : ℕ} (ps : List (Passed n)) {S R : RattleType} {σ ρ : Ty} (B : Result S R σ ρ) (k : Name) {M : Type 1} (𝓤 : URA M) (Φ : Session → Told ps (S .Denot → SProp 𝓤)) where
+module _ {n : ℕ} (ps : List (Passed n)) {S R : RattleType} {σ ρ : Ty} (B : Result S R σ ρ) (k : Name) {M : Type 1} (𝓤 : URA M) (Φ : Session → OfValues ps (S .Denot → SProp 𝓤)) where
   abbrev pub ended : Ended
   ended = record { signature = record { lifetimes = suc n; outlives = []; params = RefMutOf (0 ∷ []) tt (plain (λ κs. T.the-row)) (λ κs. tt) ∷ slots outer ps; result = plain (λ κs. R) }; kept = (yes, all yes (slots outer ps)) }
 
@@ -52,17 +52,17 @@ module _ {n : ℕ} (ps : List (Passed n)) {S R : RattleType} {σ ρ : Ty} (B : R
   stayed = (stay-ref (0 ∷ []) tt (plain (λ _. T.the-row)), saids (slots outer ps))
 
   abbrev clauses : Clauses 𝓤 ended
-  clauses = λ κs a. record { ghost = Unit {0}; requires = λ g. emp 𝓤; ensures = λ g r e. told outer ps κs (Φ (now (a .0))) (a .1) (e .1) (B .both r (now (e .0))) }
+  clauses = λ κs a. record { ghost = Unit {0}; requires = λ g. emp 𝓤; ensures = λ g r e. atValues outer ps κs (Φ (now (a .0))) (a .1) (e .1) (B .both r (now (e .0))) }
 
   abbrev callee : Clauses 𝓤 by-value
-  callee = λ κs a. record { ghost = Unit {0}; requires = λ g. emp 𝓤; ensures = λ g r e. told inner ps κs (Φ (a .0)) (a .1) (e .1) r }
+  callee = λ κs a. record { ghost = Unit {0}; requires = λ g. emp 𝓤; ensures = λ g r e. atValues inner ps κs (Φ (a .0)) (a .1) (e .1) r }
 
   abbrev pub Callee : (H : Heap 𝓤) (A : Atoms 𝓤) → Contract 𝓤
   Callee H A = tripleOf 𝓤 H A (by-value .signature) (closing 𝓤 H A by-value callee)
 
   -- the locals: the answer, the session's reference, the other parameters; then what the callee returns, the session's copy, and what is lent again
   abbrev whole : ℕ
-  whole = past (tys ps) 2
+  whole = pastLocals (tys ps) 2
 
   abbrev session : ℕ
   session = suc whole
@@ -74,16 +74,16 @@ module _ {n : ℕ} (ps : List (Passed n)) {S R : RattleType} {σ ρ : Ty} (B : R
   lent = record {
     lifetimes = suc n;
     outlives = [];
-    params = past (tys ps) 1;
+    params = pastLocals (tys ps) 1;
     locals = local ρ valueLocal ∷ local lentTy valueLocal ∷ lets (tys ps) (local σ valueLocal ∷ local T′.mir valueLocal ∷ lets (temps ps) []);
     body = seq (assign (place session []) (rvOpd (copy (place 1 (deref T′.mir ∷ []))))) (lends 2 temp ps (seq (call k (copy (place session []) ∷ operands 2 temp ps) (place whole [])) (seq (assign (place 1 (deref T′.mir ∷ [])) (rvOpd (B .session-at whole))) (seq (assign (place 0 []) (B .answer-at whole)) return))));
   }
 
   -- where each stands
-  abbrev after : ℕ → ℕ → Blocks (temps ps) → List (Ty × ℕ)
+  abbrev after : ℕ → ℕ → LocalBlocks (temps ps) → List (Ty × ℕ)
   after m s cs = (σ, m) ∷ (T′.mir, s) ∷ envs (temps ps) cs []
 
-  module _ (l₀ l₁ : ℕ) (bs : Blocks (tys ps)) (m s : ℕ) (cs : Blocks (temps ps)) where
+  module _ (l₀ l₁ : ℕ) (bs : LocalBlocks (tys ps)) (m s : ℕ) (cs : LocalBlocks (temps ps)) where
     abbrev env : List (Ty × ℕ)
     env = (ρ, l₀) ∷ (lentTy, l₁) ∷ envs (tys ps) bs (after m s cs)
 
@@ -125,13 +125,13 @@ module _ {n : ℕ} (ps : List (Passed n)) {S R : RattleType} {σ ρ : Ty} (B : R
 
     -- the call: what it is passed, and what it asks
     abbrev inside : Args (by-value .signature) (κs .1)
-    inside = (now x, below κs ps a)
+    inside = (now x, to-callee κs ps a)
 
     abbrev to : Callee H A .Ghost
     to = ((κs .1, qs .1, tt, inside, (T′.lowered (now x) ∷ [], inner-vals κs ps a)), tt)
 
     asked : Is T.the-row (now x) (T′.lowered (now x) ∷ []) → ent 𝓤 (⋆ 𝓤 H A (raw Tokens ∷ Owned ∷ [])) (Callee H A .pre to)
-    asked g = qed W (raw Tokens ∷ Owned ∷ []) ∵ move ! (1 ∷ []) $ use1 W (‵ (owns (typesAt (slots inner ps) (κs .1)) (below κs ps a) (inner-vals κs ps a))) (handed 𝓤 H A W κs ps a) $
+    asked g = qed W (raw Tokens ∷ Owned ∷ []) ∵ move ! (1 ∷ []) $ use1 W (‵ (owns (typesAt (slots inner ps) (κs .1)) (to-callee κs ps a) (inner-vals κs ps a))) (handed 𝓤 H A W κs ps a) $
         owned ! T.the-row (Is T.the-row) (LL.makes T.the-type T′.the-plain 𝓤 H A) (now x) _ g $ fjoin ! $ nothing ! $ move ! (2 ∷ 1 ∷ []) $ join ! $ frame ! $ done !
 
     -- what the callee says of what it returned, at the last values zs, and what the wrapper owes
@@ -140,16 +140,16 @@ module _ {n : ℕ} (ps : List (Passed n)) {S R : RattleType} {σ ρ : Ty} (B : R
 
     module _ (r : S .Denot) (zs : Lasts by-value (κs .1) inside) where
       abbrev Says : S .Denot → SProp 𝓤
-      Says = told inner ps (κs .1) (Φ (now x)) (below κs ps a) (outs (κs .1) (slots inner ps) (all yes (slots inner ps)) (below κs ps a) (zs .1))
+      Says = atValues inner ps (κs .1) (Φ (now x)) (to-callee κs ps a) (outs (κs .1) (slots inner ps) (all yes (slots inner ps)) (to-callee κs ps a) (zs .1))
 
       abbrev last : Lasts ended κs (x, a)
       last = (B .session r, ends κs ps a (zs .1))
 
       abbrev Owes : SProp 𝓤
-      Owes = told outer ps κs (Φ (now x)) a (outs κs (slots outer ps) (all yes (slots outer ps)) a (last .1)) (B .both (B .answer r) (B .session r))
+      Owes = atValues outer ps κs (Φ (now x)) a (outs κs (slots outer ps) (all yes (slots outer ps)) a (last .1)) (B .both (B .answer r) (B .session r))
 
       says-owes : ent 𝓤 (Says r) Owes
-      says-owes = subst (λ (f : S .Denot → SProp 𝓤). ent 𝓤 (Says r) (f (B .both (B .answer r) (B .session r)))) (told-same κs ps (Φ (now x)) a (zs .1)) (subst (λ (r′ : S .Denot). ent 𝓤 (Says r) (Says r′)) (sym (B .apart r)) (id⊢ 𝓤 (Says r)))
+      says-owes = subst (λ (f : S .Denot → SProp 𝓤). ent 𝓤 (Says r) (f (B .both (B .answer r) (B .session r)))) (same-clause κs ps (Φ (now x)) a (zs .1)) (subst (λ (r′ : S .Denot). ent 𝓤 (Says r) (Says r′)) (sym (B .apart r)) (id⊢ 𝓤 (Says r)))
 
     exits : (r : S .Denot) → Is S r (B .whole .low r ∷ []) → ent 𝓤 (⋆ 𝓤 H A (Known (B .session r) ∷ Borrow ∷ Token ∷ raw Tokens ∷ raw (Said r) ∷ [])) (Post (B .part .low (B .answer r)))
     exits r is =
@@ -181,7 +181,7 @@ module _ {n : ℕ} (ps : List (Passed n)) {S R : RattleType} {σ ρ : Ty} (B : R
           (and-then ! (load ! (near ! (from-here (from-next (from-whole l₀ l₁ bs m s cs))) (stop !)) (look ! 7 refl)) (reads-all κs ! ps a bs cs (at-others l₀ l₁ bs m s cs) (at-temps l₀ l₁ bs m s cs)))) (λ r is.
           -- [what is known of the session; its borrow; its token; the other tokens; what the callee said; the locals …]
           returns ! (look ! 7 refl) $ forget ! 7 refl $ forget ! 6 refl $ forget ! 5 refl $ forget ! 10 refl $
-          move ! (8 ∷ 9 ∷ []) $ use1 W (‵ (rooms (tys ps) bs)) (emptied W (tys ps) bs (words κs ps a)) $ move ! (1 ∷ []) $ use1 W (‵ (rooms (temps ps) cs)) (emptied W (temps ps) cs (temp-words κs ps a)) $
+          move ! (8 ∷ 9 ∷ []) $ use1 W (‵ (rooms (tys ps) bs)) (emptied W (tys ps) bs (value-words κs ps a)) $ move ! (1 ∷ []) $ use1 W (‵ (rooms (temps ps) cs)) (emptied W (temps ps) cs (temp-words κs ps a)) $
           move ! (9 ∷ 16 ∷ []) $ free1 ! $ move ! (7 ∷ 14 ∷ []) $ free1 ! $ move ! (1 ∷ 12 ∷ []) $ free-all ! (tys ps) bs $ move ! (6 ∷ 10 ∷ []) $ free1 ! $ move ! (6 ∷ 8 ∷ []) $ free1 ! $ move ! (0 ∷ 6 ∷ []) $ free-all ! (temps ps) cs $ free0 ! $
           by ! (exits r is)))))))))
 

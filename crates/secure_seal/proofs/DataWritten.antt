@@ -1,7 +1,7 @@
 -- The data over a part of the buffer that is as long as it.
 -- Assumes nothing.
 use mathlib.Core.Path.{_≡_, refl, sym, ap, _∙_}
-use mathlib.Core.Bool.{Bool, true, false}
+use mathlib.Core.Bool.{Bool, true, false, false≢true}
 use mathlib.Core.List.{List}
 use Prim.Native.Nat.{ℕ, _≤_}
 use native.Mathlib.Omega.{arith}
@@ -11,9 +11,9 @@ use Rattle.laws.specs.Answer.{Answer.given}
 use Rattle.laws.specs.Bytes.{Bytes, compl}
 use Rattle.laws.specs.Blocks.{Block}
 use Rattle.laws.specs.Over.{write}
-use Rattle.secure_cipher.specs.Cbc.{Done, hide, hiddenLen, encryptOf, told}
+use Rattle.secure_cipher.specs.Cbc.{Done, hide, hiddenLen, encryptOf, cipherTold}
 use Rattle.secure_cipher.specs.declared.cipher.Ciphered.{Ciphered}
-use Rattle.secure_seal.specs.Seal.{dataLen, dataOf}
+use Rattle.secure_seal.specs.Seal.{dataLenFor, dataOf}
 use Rattle.secure_seal.proofs.Places.{write-whole}
 use Rattle.secure_seal.proofs.SealLaws.{plain-len, hidden-data, data-length}
 
@@ -22,23 +22,23 @@ encrypt-fits : (k v x o : List ℕ) → hiddenLen x ≤ length o
 unfolding encryptOf
 encrypt-fits k v x o h = rw (le-ltb (length o) (hiddenLen x) h)
 
-pub hidden-written : (e : Bool) (k v w x o o₂ : List ℕ) (r : Ciphered) → e ≡ true → Block k → Block v → Bytes x → length o ≡ dataLen e x → w ≡ compl v
-    → told r o₂ ≡ encryptOf k w x o → (o₂ ≡ dataOf e k v x .bytes) × (r .calls ≡ dataOf e k v x .steps)
-unfolding dataLen
+pub hidden-written : (e : Bool) (k v w x o o₂ : List ℕ) (r : Ciphered) → e ≡ true → Block k → Block v → Bytes x → length o ≡ dataLenFor e x → w ≡ compl v
+    → cipherTold r o₂ ≡ encryptOf k w x o → (o₂ ≡ dataOf e k v x .bytes) × (r .calls ≡ dataOf e k v x .steps)
+unfolding dataLenFor
 hidden-written true k v w x o o₂ r et hk hv hx n ew t =
-    let d : told r o₂ ≡ record { answer = given (hiddenLen x); out = write o 0 (hide k (compl v) x .bytes); steps = hide k (compl v) x .steps } =
+    let d : cipherTold r o₂ ≡ record { answer = given (hiddenLen x); out = write o 0 (hide k (compl v) x .bytes); steps = hide k (compl v) x .steps } =
     t ∙ ap (λ (u : List ℕ). encryptOf k u x o) ew ∙ encrypt-fits k (compl v) x o (omega arith) in
     let b : hide k (compl v) x .bytes ≡ dataOf true k v x .bytes = sym (ap (λ h. h .bytes) (hidden-data k v x)) in (
       ap (λ (u : Done). u .out) d ∙ ap (write o 0) b ∙ write-whole o (dataOf true k v x .bytes) (n ∙ sym (data-length k v x hk hv hx true)),
       ap (λ (u : Done). u .steps) d ∙ sym (ap (λ h. h .steps) (hidden-data k v x)),
     )
-hidden-written false k v w x o o₂ r et hk hv hx n ew t = absurd (let z : _≡_ {A = ℕ} 0 1 = cc in omega arith)
+hidden-written false k v w x o o₂ r et hk hv hx n ew t = absurd (false≢true et)
 
-pub plain-fits : (e : Bool) (x o : List ℕ) → e ≡ false → length o ≡ dataLen e x → length o ≡ length x
+pub plain-fits : (e : Bool) (x o : List ℕ) → e ≡ false → length o ≡ dataLenFor e x → length o ≡ length x
 plain-fits false x o ef n = n ∙ plain-len x
-plain-fits true x o ef n = absurd (let z : _≡_ {A = ℕ} 0 1 = cc in omega arith)
+plain-fits true x o ef n = absurd (false≢true (sym ef))
 
 pub plain-written : (e : Bool) (k v x o₂ : List ℕ) → e ≡ false → o₂ ≡ x → (o₂ ≡ dataOf e k v x .bytes) × (0 ≡ dataOf e k v x .steps)
 unfolding dataOf
 plain-written false k v x o₂ ef h = (h, refl)
-plain-written true k v x o₂ ef h = absurd (let z : _≡_ {A = ℕ} 0 1 = cc in omega arith)
+plain-written true k v x o₂ ef h = absurd (false≢true (sym ef))

@@ -11,18 +11,18 @@ use borrow.Rule.Slice.PartMut.{putMid}
 use Rattle.laws.specs.Bytes.{compl}
 use Rattle.laws.specs.Over.{write}
 use Rattle.laws.proofs.Overwrite.{write-write, take-write}
-use Rattle.laws.proofs.Listed.{listed}
+use Rattle.laws.proofs.Listed.{front-listed}
 use Rattle.packet_sums.specs.Crc.{crcOf, lowFirst}
-use Rattle.packet_build.specs.Build.{Block.scb, bodyBytes, tailBytes, bytesOf}
+use Rattle.packet_build.specs.Build.{FrameBlock.scb, bodyBytes, tailBytes, frameBytes}
 use Rattle.packet_build.proofs.Sizes.{body-length}
 use Rattle.secure_keys.specs.declared.crypto.SessionKeys.{SessionKeys}
 use Rattle.secure_cipher.specs.Mac.{Mac, macOf}
 use Rattle.secure_cipher.proofs.CbcLaws.{steps-hide}
 use Rattle.secure_cipher.proofs.MacLaws.{mac-steps}
-use Rattle.secure_seal.specs.Seal.{typeFor, dataLen, dataOf, Asked, totalOf, partsWith, bodyWith, sealedFrame}
+use Rattle.secure_seal.specs.Seal.{typeFor, dataLenFor, dataOf, Asked, totalOf, partsWith, bodyWith, sealedFrame}
 use Rattle.secure_seal.specs.Core.{Put}
 use Rattle.secure_seal.proofs.Places.{part-write}
-use Rattle.secure_seal.proofs.SealLaws.{dataIn}
+use Rattle.secure_seal.proofs.SealLaws.{sealedData}
 
 pub head-bytes : (a b total v sqn k t code : ℕ) → a ≡ b → v ≡ sqn → k ≡ t
     → 0x53 ∷ a ∷ total % 256 ∷ total / 256 ∷ (v + 12) ∷ 2 ∷ k ∷ code ∷ [] ≡ bodyBytes b (sqn, true, true) (scb t []) code [] total
@@ -39,49 +39,49 @@ pub end-written : (o f y c z : List ℕ) (end : ℕ) → length f ≡ 16 → y �
 unfolding lowFirst
 end-written o f y c z end n ey ec ez =
     let w : putMid end (end + 4 - end) o y ≡ write o end (take 4 f) =
-    part-write o end (end + 4 - end) y (ap length ey ∙ omega arith) ∙ ap (write o end) (ey ∙ listed f 4 (omega arith)) in
+    part-write o end (end + 4 - end) y (ap length ey ∙ omega arith) ∙ ap (write o end) (ey ∙ front-listed f 4 (omega arith)) in
     part-write (putMid end (end + 4 - end) o y) (end + 4) (end + 6 - (end + 4)) z (ap length (ez ∙ ec) ∙ omega arith)
     ∙ ap₂ (λ (x t : List ℕ). write x (end + 4) t) w (ez ∙ ec ∙ ap (λ (x : List ℕ). tailBytes true (take (end + 4) x)) w)
 
 -- ---- the whole: y is the data, m the MAC
 
 module _ (k : SessionKeys) (v : List ℕ) (q : Asked) (o o₁ y : List ℕ) (t total : ℕ) (et : total ≡ totalOf q) (room : total ≤ length o)
-    (ey : y ≡ dataIn k v q) (ly : length y ≡ dataLen (q .encrypt) (q .payload))
+    (ey : y ≡ sealedData k v q) (ly : length y ≡ dataLenFor (q .encrypt) (q .payload))
     (e₁ : o₁ ≡ write o 0 (bodyBytes (q .addr) (q .sqn, true, true) (scb t []) (q .code) [] total)) (ek : t ≡ typeFor (q .direction) (q .encrypt)) where
-  length-body : length (bodyWith q (dataIn k v q)) ≡ total - 6
+  length-body : length (bodyWith q (sealedData k v q)) ≡ total - 6
   length-body =
-      omega (arith, body-length (q .addr) (q .sqn, true, true) (scb (typeFor (q .direction) (q .encrypt)) []) (q .code) (dataIn k v q) (totalOf q), ap length (sym ey))
+      omega (arith, body-length (q .addr) (q .sqn, true, true) (scb (typeFor (q .direction) (q .encrypt)) []) (q .code) (sealedData k v q) (totalOf q), ap length (sym ey))
 
-  body-joined : bodyBytes (q .addr) (q .sqn, true, true) (scb t []) (q .code) [] total ++ y ≡ bodyWith q (dataIn k v q)
+  body-joined : bodyBytes (q .addr) (q .sqn, true, true) (scb t []) (q .code) [] total ++ y ≡ bodyWith q (sealedData k v q)
   unfolding bodyBytes
   body-joined = rw (et, ek, ey)
 
-  body-written : putMid 8 (total - 6 - 8) o₁ y ≡ write o 0 (bodyWith q (dataIn k v q))
+  body-written : putMid 8 (total - 6 - 8) o₁ y ≡ write o 0 (bodyWith q (sealedData k v q))
   body-written =
       let l = body-length (q .addr) (q .sqn, true, true) (scb t []) (q .code) [] total in
       part-write o₁ 8 (total - 6 - 8) y (omega arith) ∙ ap (λ (x : List ℕ). write x 8 y) e₁
       ∙ write-write o 0 (bodyBytes (q .addr) (q .sqn, true, true) (scb t []) (q .code) [] total) 8 y (omega arith) (omega arith) ∙ ap (write o 0) body-joined
 
-  body-seen : take (total - 6) (putMid 8 (total - 6 - 8) o₁ y) ≡ bodyWith q (dataIn k v q)
-  body-seen = ap (take (total - 6)) body-written ∙ take-write o (total - 6) (bodyWith q (dataIn k v q)) (sym length-body)
+  body-seen : take (total - 6) (putMid 8 (total - 6 - 8) o₁ y) ≡ bodyWith q (sealedData k v q)
+  body-seen = ap (take (total - 6)) body-written ∙ take-write o (total - 6) (bodyWith q (sealedData k v q)) (sym length-body)
 
   module _ (f o₃ : List ℕ) (n h : ℕ) (lf : length f ≡ 16) (eh : h ≡ dataOf (q .encrypt) (k .«s_enc») v (q .payload) .steps)
       (em : _≡_ {A = Mac} (record { full = f; steps = n }) (macOf (k .«s_mac1») (k .«s_mac2») v (take (total - 6) (putMid 8 (total - 6 - 8) o₁ y))))
       (e₃ : o₃ ≡ write (write (putMid 8 (total - 6 - 8) o₁ y) (total - 6) (take 4 f)) (total - 6 + 4)
       (tailBytes true (take (total - 6 + 4) (write (putMid 8 (total - 6 - 8) o₁ y) (total - 6) (take 4 f))))) where
-    mac-made : _≡_ {A = Mac} (record { full = f; steps = n }) (macOf (k .«s_mac1») (k .«s_mac2») v (bodyWith q (dataIn k v q)))
+    mac-made : _≡_ {A = Mac} (record { full = f; steps = n }) (macOf (k .«s_mac1») (k .«s_mac2») v (bodyWith q (sealedData k v q)))
     mac-made = em ∙ ap (macOf (k .«s_mac1») (k .«s_mac2») v) body-seen
 
-    signed : write (putMid 8 (total - 6 - 8) o₁ y) (total - 6) (take 4 f) ≡ write o 0 (bodyWith q (dataIn k v q) ++ take 4 f)
+    signed : write (putMid 8 (total - 6 - 8) o₁ y) (total - 6) (take 4 f) ≡ write o 0 (bodyWith q (sealedData k v q) ++ take 4 f)
     signed =
         ap (λ (x : List ℕ). write x (total - 6) (take 4 f)) body-written
-        ∙ write-write o 0 (bodyWith q (dataIn k v q)) (total - 6) (take 4 f) (omega (arith, length-body)) (omega (arith, length-body, length-take-le 4 f (omega arith)))
+        ∙ write-write o 0 (bodyWith q (sealedData k v q)) (total - 6) (take 4 f) (omega (arith, length-body)) (omega (arith, length-body, length-take-le 4 f (omega arith)))
 
-    ended : o₃ ≡ write o 0 (bytesOf (partsWith q (dataIn k v q) (take 4 f)) (totalOf q))
-    unfolding bytesOf
+    ended : o₃ ≡ write o 0 (frameBytes (partsWith q (sealedData k v q) (take 4 f)) (totalOf q))
+    unfolding frameBytes
     ended =
-        let b = bodyWith q (dataIn k v q) ++ take 4 f in
-        let l : length b ≡ total - 6 + 4 = length-append (bodyWith q (dataIn k v q)) (take 4 f) ∙ omega (arith, length-body, length-take-le 4 f (omega arith)) in
+        let b = bodyWith q (sealedData k v q) ++ take 4 f in
+        let l : length b ≡ total - 6 + 4 = length-append (bodyWith q (sealedData k v q)) (take 4 f) ∙ omega (arith, length-body, length-take-le 4 f (omega arith)) in
         e₃ ∙ ap (λ (x : List ℕ). write x (total - 6 + 4) (tailBytes true (take (total - 6 + 4) x))) signed
         ∙ ap (λ (x : List ℕ). write (write o 0 b) (total - 6 + 4) (tailBytes true x)) (take-write o (total - 6 + 4) b (sym l))
         ∙ write-write o 0 b (total - 6 + 4) (tailBytes true b) (omega arith) (omega arith)
@@ -89,9 +89,9 @@ module _ (k : SessionKeys) (v : List ℕ) (q : Asked) (o o₁ y : List ℕ) (t t
     pub frame-put : Put (sealedFrame k v q) o o₃ (record { full = f; calls = h + n })
     unfolding sealedFrame
     frame-put =
-        let e : f ≡ macOf (k .«s_mac1») (k .«s_mac2») v (bodyWith q (dataIn k v q)) .full = ap (λ (m : Mac). m .full) mac-made in
+        let e : f ≡ macOf (k .«s_mac1») (k .«s_mac2») v (bodyWith q (sealedData k v q)) .full = ap (λ (m : Mac). m .full) mac-made in
         record {
-          here = ended ∙ ap (λ (x : List ℕ). write o 0 (bytesOf (partsWith q (dataIn k v q) (take 4 x)) (totalOf q))) e;
+          here = ended ∙ ap (λ (x : List ℕ). write o 0 (frameBytes (partsWith q (sealedData k v q) (take 4 x)) (totalOf q))) e;
           mac = e;
           counted = ap₂ (λ (x z : ℕ). x + z) eh (ap (λ (m : Mac). m .steps) mac-made);
         }

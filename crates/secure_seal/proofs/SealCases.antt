@@ -14,20 +14,20 @@ use Rattle.refusal.specs.declared.Refusal.the-variants.{WrongState}
 use Rattle.secure_cipher.specs.declared.mac.ChainMac.{ChainMac}
 use Rattle.secure_session.specs.Session.{isSecure, sendFrom, sent}
 use Rattle.secure_session.specs.declared.session.Session.{Session}
-use Rattle.secure_seal.specs.Seal.{Asked, totalOf, sealedFrame, frameTest, sealing, sealRun, SealDone, afterSeal, settled, sealOf, sealTold}
+use Rattle.secure_seal.specs.Seal.{Asked, totalOf, sealedFrame, frameTest, sealing, sealRun, SealDone, afterSeal, sealedOn, sealOf, sealTold}
 use Rattle.secure_seal.specs.Core.{Put, refusedWith}
 use Rattle.secure_seal.specs.declared.frame.Sealed.{Sealed}
 
-abbrev done : Answer ℕ → Session → List ℕ → ℕ → SealDone
-done a s o n = record { answer = a; session = s; out = o; steps = n }
+abbrev sealDone : Answer ℕ → Session → List ℕ → ℕ → SealDone
+sealDone a s o n = record { answer = a; session = s; out = o; steps = n }
 
-pub seal-not-secure : (s : Session) (q : Asked) (o : List ℕ) → isSecure (s .state) ≡ false → done (refused 16 []) s o 0 ≡ sealOf s q o
+pub seal-not-secure : (s : Session) (q : Asked) (o : List ℕ) → isSecure (s .state) ≡ false → sealDone (refused 16 []) s o 0 ≡ sealOf s q o
 unfolding sealOf sealRun sealing afterSeal refuseIf
 seal-not-secure s q o e = rw e
 
 -- what the tests of the frame leave
 abbrev pub picked : Session → Asked → List ℕ → Answer ℕ → SealDone
-picked s q o a = settled s (sealing (sealedFrame (s .keys) (sendFrom s) q) o a)
+picked s q o a = sealedOn s (sealing (sealedFrame (s .keys) (sendFrom s) q) o a)
 
 pub seal-tested : (s : Session) (q : Asked) (o : List ℕ) → isSecure (s .state) ≡ true → picked s q o (frameTest (q .sqn) (totalOf q) (length o)) ≡ sealOf s q o
 unfolding sealOf sealRun refuseIf
@@ -53,20 +53,20 @@ module _ (n sqn t have : ℕ) (en : n ≡ sqn) where
   test-good h m r = rw (← en, le-ltb 3 n h, le-ltb 65535 t m, le-ltb have t r)
 
 -- what passes the tests
-pub record Passed (q : Asked) (have t : ℕ) : Type 0 where
+pub record PassedTests (q : Asked) (have t : ℕ) : Type 0 where
   pub sqn : q .sqn ≤ 3
   pub total : totalOf q ≡ t
   pub most : totalOf q ≤ 65535
   pub room : totalOf q ≤ have
 
-passes : (q : Asked) (have : ℕ) → Holds (Passed q have) (frameTest (q .sqn) (totalOf q) have)
+tests-hold : (q : Asked) (have : ℕ) → Holds (PassedTests q have) (frameTest (q .sqn) (totalOf q) have)
 unfolding frameTest
-passes q have =
+tests-hold q have =
     holds-refuse _ _ _ _ _ (λ n. holds-refuse _ _ _ _ _ (λ m. holds-refuse _ _ _ _ _ (λ r.
     record { sqn = ltb-false _ _ n; total = refl; most = ltb-false _ _ m; room = ltb-false _ _ r })))
 
-pub passed : (q : Asked) (have t : ℕ) {a : Answer ℕ} → a ≡ given t → a ≡ frameTest (q .sqn) (totalOf q) have → Passed q have t
-passed q have t g e = holds-given (Passed q have) (frameTest (q .sqn) (totalOf q) have) t (passes q have) (sym e ∙ g)
+pub tests-passed : (q : Asked) (have t : ℕ) {a : Answer ℕ} → a ≡ given t → a ≡ frameTest (q .sqn) (totalOf q) have → PassedTests q have t
+tests-passed q have t g e = holds-given (PassedTests q have) (frameTest (q .sqn) (totalOf q) have) t (tests-hold q have) (sym e ∙ g)
 
 -- ---- as the code has them: b is its test of the state, a what the tests of the frame answered
 
@@ -83,8 +83,8 @@ module _ (s : Session) (q : Asked) (o : List ℕ) (b : Bool) (eb : b ≡ isSecur
     told-refused e h er = ap (λ (x : Sealed). sealTold x o) er ∙ ap (picked s q o) (sym h) ∙ tested
 
     pub told-done : (t : ℕ) (m : ChainMac) (v o₂ : List ℕ) (s₂ : Session) → a ≡ given t → v ≡ sendFrom s → Put (sealedFrame (s .keys) v q) o o₂ m → s₂ ≡ sent s (m .full)
-        → done (given t) s₂ o₂ (m .calls) ≡ sealOf s q o
+        → sealDone (given t) s₂ o₂ (m .calls) ≡ sealOf s q o
     unfolding sealing afterSeal
     told-done t m v o₂ s₂ h ev p es =
         let f : Put (sealedFrame (s .keys) (sendFrom s) q) o o₂ m = rw ev at p in
-        (λ i. done (given t) ((es ∙ ap (sent s) (f .mac)) i) (f .here i) (f .counted i)) ∙ ap (picked s q o) (sym h) ∙ tested
+        (λ i. sealDone (given t) ((es ∙ ap (sent s) (f .mac)) i) (f .here i) (f .counted i)) ∙ ap (picked s q o) (sym h) ∙ tested

@@ -8,7 +8,7 @@ use lib.ListN.{length}
 use Rattle.laws.specs.Blocks.{Block}
 use Rattle.secure_keys.specs.declared.crypto.SessionKeys.{SessionKeys}
 use Rattle.secure_keys.proofs.KeysLaws.{GoodKeys}
-use Rattle.secure_seal.specs.Seal.{Asked, dataLen, Sealable, sealedFrame}
+use Rattle.secure_seal.specs.Seal.{Asked, dataLenFor, Sealable, sealedFrame}
 use Rattle.secure_seal.proofs.SealLaws.{stepsFor, plain-len, hidden-len, frame-length, frame-steps}
 
 -- the length of the frame and the calls for n bytes, encrypted or plain
@@ -16,7 +16,7 @@ abbrev pub sizeFor : Bool → ℕ → ℕ × ℕ
 sizeFor true n = (14 + (n / 16 + 1) * 16, stepsFor true n)
 sizeFor false n = (14 + n, stepsFor false n)
 
-total-for : (e : Bool) (x : List ℕ) → 14 + dataLen e x ≡ sizeFor e (length x) .0
+total-for : (e : Bool) (x : List ℕ) → 14 + dataLenFor e x ≡ sizeFor e (length x) .0
 total-for true x = ap (λ (n : ℕ). 14 + n) (hidden-len x)
 total-for false x = ap (λ (n : ℕ). 14 + n) (plain-len x)
 

@@ -11,7 +11,7 @@ use Rattle.laws.specs.Bytes.{Bytes, compl}
 use Rattle.laws.specs.Over.{write}
 use Rattle.packet_head.specs.declared.header.Address.{Address}
 use Rattle.packet_head.specs.declared.header.Sqn.{Sqn}
-use Rattle.packet_build.specs.Build.{Block.scb, Parts, bodyBytes, bytesOf}
+use Rattle.packet_build.specs.Build.{FrameBlock.scb, Parts, bodyBytes, frameBytes}
 use Rattle.secure_keys.specs.declared.crypto.SessionKeys.{SessionKeys}
 use Rattle.secure_cipher.specs.Pad.{lengthAnswer}
 use Rattle.secure_cipher.specs.Mac.{macOf}
@@ -33,9 +33,9 @@ typeFor PdToAcu true = 0x18
 -- ---- the frame, from keys, a start value and the fields alone
 
 -- how much data a payload becomes
-unfoldable pub dataLen : Bool → List ℕ → ℕ
-dataLen false x = length x
-dataLen true x = hiddenLen x
+unfoldable pub dataLenFor : Bool → List ℕ → ℕ
+dataLenFor false x = length x
+dataLenFor true x = hiddenLen x
 
 -- the frame's data: the payload, or the payload enciphered from the complement of the start value
 unfoldable pub dataOf : Bool → List ℕ → List ℕ → List ℕ → Hidden
@@ -56,7 +56,7 @@ askedOf a n d e c x = record { addr = a .0; sqn = n .0; direction = d; encrypt =
 
 -- 53, address, LEN, CTRL, block, code: eight bytes; MAC and CRC: six
 abbrev pub totalOf : Asked → ℕ
-totalOf q = 14 + dataLen (q .encrypt) (q .payload)
+totalOf q = 14 + dataLenFor (q .encrypt) (q .payload)
 
 -- bytes, a sequence number, and a total within LEN
 pub record Sealable (q : Asked) : Type 0 where
@@ -85,7 +85,7 @@ unfoldable pub sealedFrame : SessionKeys → List ℕ → Asked → SealedFrame
 sealedFrame k v q =
     let d = dataOf (q .encrypt) (k .«s_enc») v (q .payload) in
     let m = macOf (k .«s_mac1») (k .«s_mac2») v (bodyWith q (d .bytes)) in
-    record { bytes = bytesOf (partsWith q (d .bytes) (take 4 (m .full))) (totalOf q); full = m .full; steps = d .steps + m .steps }
+    record { bytes = frameBytes (partsWith q (d .bytes) (take 4 (m .full))) (totalOf q); full = m .full; steps = d .steps + m .steps }
 
 -- ---- the tests of a frame of t bytes, for a buffer of `have`: 10, 12, 18
 
@@ -126,11 +126,11 @@ afterSeal s none = s
 afterSeal s (some m) = sent s m
 
 -- a run, put on a session
-abbrev pub settled : Session → SealRun → SealDone
-settled s r = record { answer = r .answer; session = afterSeal s (r .moved); out = r .out; steps = r .steps }
+abbrev pub sealedOn : Session → SealRun → SealDone
+sealedOn s r = record { answer = r .answer; session = afterSeal s (r .moved); out = r .out; steps = r .steps }
 
 unfoldable pub sealOf : Session → Asked → List ℕ → SealDone
-sealOf s q o = settled s (sealRun (s .state) (s .keys) (sendFrom s) q o)
+sealOf s q o = sealedOn s (sealRun (s .state) (s .keys) (sendFrom s) q o)
 
 -- ---- the code's answer, as the paper has it; `o` is the buffer in the end
 

@@ -5,10 +5,10 @@ ghost use mathlib.Core.Bool.{true};
 ghost use mathlib.Core.List.{[]};
 ghost use lib.ListN.{length, take};
 ghost use Rattle.laws.specs.Over.{write};
-ghost use Rattle.packet_build.specs.Build.{Block.scb, bodyBytes, tailBytes};
+ghost use Rattle.packet_build.specs.Build.{FrameBlock.scb, bodyBytes, tailBytes};
 ghost use Rattle.packet_head.specs.Block.{typeOf};
 ghost use Rattle.secure_cipher.specs.Pad.{lengthAnswer};
-ghost use Rattle.secure_seal.specs.Seal.{typeFor, dataLen, dataOf, askedOf, sealedFrame, frameTest, sealOf, sealTold};
+ghost use Rattle.secure_seal.specs.Seal.{typeFor, dataLenFor, dataOf, askedOf, sealedFrame, frameTest, sealOf, sealTold};
 ghost use Rattle.secure_seal.specs.Core.{Put, refusedWith};
 use packet_head::Address;
 use packet_head::ScsType;
@@ -57,7 +57,7 @@ pub struct Sealed {
 
 // How long the frame is.
 fn total_len(encrypt: bool, data: &[u8]) -> usize
-    ensures { λ r. ⌜ r ≡ 14 + dataLen encrypt (now («data» .entry)) ⌝ }
+    ensures { λ r. ⌜ r ≡ 14 + dataLenFor encrypt (now («data» .entry)) ⌝ }
 {
     if encrypt {
         data.len() / 16 * 16 + 30
@@ -116,7 +116,7 @@ fn put_head(addr: Address, sqn: Sqn, kind: ScsType, code: u8, total: usize, out:
 
 // The data over the whole of out; how often the cipher was called for it.
 fn put_data(s_enc: [u8; 16], start: [u8; 16], encrypt: bool, data: &[u8], out: &mut [u8]) -> usize
-    requires { ⌜ length (now out) ≡ dataLen encrypt (now «data») ⌝ }
+    requires { ⌜ length (now out) ≡ dataLenFor encrypt (now «data») ⌝ }
     ensures { λ r. ⌜ (now (out .exit) ≡ dataOf encrypt «s_enc» start (now («data» .entry)) .bytes) × (r ≡ dataOf encrypt «s_enc» start (now («data» .entry)) .steps) ⌝ }
 {
     if encrypt {
@@ -154,7 +154,7 @@ fn put_frame(
     data: &[u8],
     out: &mut [u8],
 ) -> ChainMac
-    requires { ⌜ (sqn .0 ≤ 3) × (14 + dataLen encrypt (now «data») ≤ 65535) × (14 + dataLen encrypt (now «data») ≤ length (now out)) ⌝ }
+    requires { ⌜ (sqn .0 ≤ 3) × (14 + dataLenFor encrypt (now «data») ≤ 65535) × (14 + dataLenFor encrypt (now «data») ≤ length (now out)) ⌝ }
     ensures { λ r. ⌜ Put (sealedFrame keys start (askedOf addr sqn direction encrypt code (now («data» .entry)))) (now (out .entry)) (now (out .exit)) r ⌝ }
 {
     let total = total_len(encrypt, data);

@@ -11,7 +11,7 @@ use Rattle.laws.specs.Bytes.{zeros, eql}
 use Rattle.secure_keys.specs.Keys.{derive, clientOf, firstOf}
 use Rattle.secure_keys.specs.declared.crypto.SessionKeys.{SessionKeys}
 use Rattle.secure_session.specs.Handshake.{Step, challengeOf, receiveCcryptOf, serverFor, serverCryptogramOf, initialRmacOf, confirmOf, receiveChallengeOf, receiveScryptOf, blockBeside}
-use Rattle.secure_session.specs.Session.{endNumber, stateNumber, isAt, fresh, reset, moved, withChain, secured}
+use Rattle.secure_session.specs.Session.{endNumber, stateNumber, isAt, fresh, reset, withStep, withChain, secured}
 use Rattle.secure_session.specs.declared.session.End.the-variants.{Controller, Reader}
 use Rattle.secure_session.specs.declared.session.End.{End}
 use Rattle.secure_session.specs.declared.session.Session.{Session}
@@ -38,17 +38,17 @@ pub reset-reader : (s : Session) → s .end ≡ Reader → fresh (s .end) (s .sc
 unfolding reset
 reset-reader s h = rw h
 
-pub chained : (s : Session) (m : List ℕ) {n : Session} → n ≡ moved s Secure (s .«rnd_a») (s .«rnd_b») (s .cuid) (s .keys) → withChain n m ≡ secured s m
+pub with-chain : (s : Session) (m : List ℕ) {n : Session} → n ≡ withStep s Secure (s .«rnd_a») (s .«rnd_b») (s .cuid) (s .keys) → withChain n m ≡ secured s m
 unfolding secured
-chained s m h = ap (λ (n : Session). withChain n m) h
+with-chain s m h = ap (λ (n : Session). withChain n m) h
 
 -- ---- the handshake's calls
 
-abbrev pub done : {A : Type 0} → A → Session → Step A
-done a s = record { answer = given a; session = s }
+abbrev pub stepDone : {A : Type 0} → A → Session → Step A
+stepDone a s = record { answer = given a; session = s }
 
-abbrev pub no : {A : Type 0} → ℕ → Session → Step A
-no n s = record { answer = refused n []; session = s }
+abbrev pub stepNo : {A : Type 0} → ℕ → Session → Step A
+stepNo n s = record { answer = refused n []; session = s }
 
 -- the block beside an answer goes with it
 pub beside : {x y : Answer (List ℕ)} → x ≡ y → (x ≡ y) × (blockBeside x ≡ blockBeside y)
@@ -58,26 +58,26 @@ pub beside-step : {x y : Step (List ℕ)} → x ≡ y → (x ≡ y) × (blockBes
 beside-step e = (e, ap (λ (r : Step (List ℕ)). blockBeside (r .answer)) e)
 
 module _ (s : Session) (a : List ℕ) {i : Bool} (hi : i ≡ isAt Controller Disconnected s) where
-  pub challenge-done : {n : Session} → i ≡ true → n ≡ moved s Challenged a (s .«rnd_b») (s .cuid) (s .keys) → done tt n ≡ challengeOf s a
+  pub challenge-done : {n : Session} → i ≡ true → n ≡ withStep s Challenged a (s .«rnd_b») (s .cuid) (s .keys) → stepDone tt n ≡ challengeOf s a
   unfolding challengeOf
   challenge-done t h = rw (← hi, t, h)
 
-  pub challenge-no : i ≡ false → no 16 s ≡ challengeOf s a
+  pub challenge-no : i ≡ false → stepNo 16 s ≡ challengeOf s a
   unfolding challengeOf
   challenge-no t = rw (← hi, t)
 
 module _ (s : Session) (u b c : List ℕ) {i : Bool} (hi : i ≡ isAt Controller Challenged s) where
-  pub ccrypt-no : i ≡ false → no 16 s ≡ receiveCcryptOf s u b c
+  pub ccrypt-no : i ≡ false → stepNo 16 s ≡ receiveCcryptOf s u b c
   unfolding receiveCcryptOf
   ccrypt-no t = rw (← hi, t)
 
   module _ {k : SessionKeys} {w : List ℕ} {e : Bool} (t : i ≡ true) (hk : k ≡ derive (s .scbk) (s .«rnd_a»))
       (hw : w ≡ clientOf (k .«s_enc») (s .«rnd_a») b) (he : e ≡ eql w c) where
-    pub ccrypt-done : {n : Session} → e ≡ true → n ≡ moved s Cryptogrammed (s .«rnd_a») b u k → done tt n ≡ receiveCcryptOf s u b c
+    pub ccrypt-done : {n : Session} → e ≡ true → n ≡ withStep s Cryptogrammed (s .«rnd_a») b u k → stepDone tt n ≡ receiveCcryptOf s u b c
     unfolding receiveCcryptOf
     ccrypt-done y h = rw (← hi, t, ← hk, ← hw, ← he, y, h)
 
-    pub ccrypt-wrong : {n : Session} → e ≡ false → n ≡ reset s → no 15 n ≡ receiveCcryptOf s u b c
+    pub ccrypt-wrong : {n : Session} → e ≡ false → n ≡ reset s → stepNo 15 n ≡ receiveCcryptOf s u b c
     unfolding receiveCcryptOf
     ccrypt-wrong y h = rw (← hi, t, ← hk, ← hw, ← he, y, h)
 
@@ -100,41 +100,41 @@ module _ (s : Session) {i : Bool} (hi : i ≡ isAt Controller Cryptogrammed s) w
   rmac-no t = rw (← hi, t)
 
 module _ (s : Session) (c : List ℕ) {i : Bool} (hi : i ≡ isAt Controller Cryptogrammed s) where
-  pub confirm-no : i ≡ false → no 16 s ≡ confirmOf s c
+  pub confirm-no : i ≡ false → stepNo 16 s ≡ confirmOf s c
   unfolding confirmOf
   confirm-no t = rw (← hi, t)
 
   module _ {v m : List ℕ} {e : Bool} (t : i ≡ true) (hv : v ≡ serverFor s)
       (hm : m ≡ firstOf (s .keys .«s_mac1») (s .keys .«s_mac2») v) (he : e ≡ eql m c) where
-    pub confirm-done : {n : Session} → e ≡ true → n ≡ secured s m → done tt n ≡ confirmOf s c
+    pub confirm-done : {n : Session} → e ≡ true → n ≡ secured s m → stepDone tt n ≡ confirmOf s c
     unfolding confirmOf
     confirm-done y h = rw (← hi, t, ← hv, ← hm, ← he, y, h)
 
-    pub confirm-wrong : {n : Session} → e ≡ false → n ≡ reset s → no 15 n ≡ confirmOf s c
+    pub confirm-wrong : {n : Session} → e ≡ false → n ≡ reset s → stepNo 15 n ≡ confirmOf s c
     unfolding confirmOf
     confirm-wrong y h = rw (← hi, t, ← hv, ← hm, ← he, y, h)
 
 module _ (s : Session) (a b : List ℕ) {i : Bool} (hi : i ≡ isAt Reader Disconnected s) where
   pub asked-done : {k : SessionKeys} {w : List ℕ} {n : Session} → i ≡ true → k ≡ derive (s .scbk) a → w ≡ clientOf (k .«s_enc») a b
-      → n ≡ moved s Challenged a b (s .cuid) k → done w n ≡ receiveChallengeOf s a b
+      → n ≡ withStep s Challenged a b (s .cuid) k → stepDone w n ≡ receiveChallengeOf s a b
   unfolding receiveChallengeOf
   asked-done t hk hw h = rw (← hi, t, ← hk, ← hw, h)
 
-  pub asked-no : i ≡ false → no 16 s ≡ receiveChallengeOf s a b
+  pub asked-no : i ≡ false → stepNo 16 s ≡ receiveChallengeOf s a b
   unfolding receiveChallengeOf
   asked-no t = rw (← hi, t)
 
 module _ (s : Session) (c : List ℕ) {i : Bool} (hi : i ≡ isAt Reader Challenged s) where
-  pub scrypt-no : i ≡ false → no 16 s ≡ receiveScryptOf s c
+  pub scrypt-no : i ≡ false → stepNo 16 s ≡ receiveScryptOf s c
   unfolding receiveScryptOf
   scrypt-no t = rw (← hi, t)
 
   module _ {v : List ℕ} {e : Bool} (t : i ≡ true) (hv : v ≡ serverFor s) (he : e ≡ eql v c) where
     pub scrypt-done : {m : List ℕ} {n : Session} → e ≡ true → m ≡ firstOf (s .keys .«s_mac1») (s .keys .«s_mac2») v
-        → n ≡ secured s m → done m n ≡ receiveScryptOf s c
+        → n ≡ secured s m → stepDone m n ≡ receiveScryptOf s c
     unfolding receiveScryptOf
     scrypt-done y hm h = rw (← hi, t, ← hv, ← he, y, ← hm, h)
 
-    pub scrypt-wrong : {n : Session} → e ≡ false → n ≡ reset s → no 15 n ≡ receiveScryptOf s c
+    pub scrypt-wrong : {n : Session} → e ≡ false → n ≡ reset s → stepNo 15 n ≡ receiveScryptOf s c
     unfolding receiveScryptOf
     scrypt-wrong y h = rw (← hi, t, ← hv, ← he, y, h)

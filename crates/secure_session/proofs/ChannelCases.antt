@@ -9,10 +9,10 @@ use Rattle.laws.specs.Answer.{Answer, Answer.given, Answer.refused}
 use Rattle.laws.specs.Bytes.{compl, eql}
 use Rattle.secure_keys.specs.declared.crypto.SessionKeys.{SessionKeys}
 use Rattle.secure_cipher.specs.Cbc.{Done, encryptOf, decryptOf}
-use Rattle.secure_session.specs.Channel.{macFrom, makeMac, verifyOf, keysOf, lastOtherMacOf, sealDataOf, openDataOf, keysBeside}
+use Rattle.secure_session.specs.Channel.{sessionMac, makeMac, verifyOf, keysOf, lastOtherMacOf, sealDataOf, openDataOf, keysBeside}
 use Rattle.secure_session.specs.Session.{isSecure, sendFrom, recvFrom, sent, received}
 use Rattle.secure_session.specs.declared.session.Session.{Session}
-use Rattle.secure_session.proofs.Cases.{done, no}
+use Rattle.secure_session.proofs.Cases.{stepDone, stepNo}
 
 -- the keys beside an answer go with it
 pub beside-keys : {x y : Answer SessionKeys} → x ≡ y → (x ≡ y) × (keysBeside x ≡ keysBeside y)
@@ -21,11 +21,11 @@ beside-keys e = (e, ap keysBeside e)
 module _ (s : Session) {i : Bool} (hi : i ≡ isSecure (s .state)) where
   -- another state
   module _ (n : i ≡ false) where
-    pub mac-no : (l : List ℕ) → no 16 s ≡ makeMac s l
+    pub mac-no : (l : List ℕ) → stepNo 16 s ≡ makeMac s l
     unfolding makeMac
     mac-no l = rw (← hi, n)
 
-    pub verify-no : (l w : List ℕ) → no 16 s ≡ verifyOf s l w
+    pub verify-no : (l w : List ℕ) → stepNo 16 s ≡ verifyOf s l w
     unfolding verifyOf
     verify-no l w = rw (← hi, n)
 
@@ -46,16 +46,16 @@ module _ (s : Session) {i : Bool} (hi : i ≡ isSecure (s .state)) where
     open-no x o = rw (← hi, n)
 
   module _ (t : i ≡ true) where
-    pub mac-done : (l : List ℕ) {v m : List ℕ} {n : Session} → v ≡ sendFrom s → m ≡ macFrom s v l .full → n ≡ sent s m → done m n ≡ makeMac s l
+    pub mac-done : (l : List ℕ) {v m : List ℕ} {n : Session} → v ≡ sendFrom s → m ≡ sessionMac s v l .full → n ≡ sent s m → stepDone m n ≡ makeMac s l
     unfolding makeMac
     mac-done l hv hm h = rw (← hi, t, ← hv, ← hm, h)
 
-    module _ (l w : List ℕ) {v m : List ℕ} {e : Bool} (hv : v ≡ recvFrom s) (hm : m ≡ macFrom s v l .full) (he : e ≡ eql (take 4 m) w) where
-      pub verify-done : {n : Session} → e ≡ true → n ≡ received s m → done tt n ≡ verifyOf s l w
+    module _ (l w : List ℕ) {v m : List ℕ} {e : Bool} (hv : v ≡ recvFrom s) (hm : m ≡ sessionMac s v l .full) (he : e ≡ eql (take 4 m) w) where
+      pub verify-done : {n : Session} → e ≡ true → n ≡ received s m → stepDone tt n ≡ verifyOf s l w
       unfolding verifyOf
       verify-done y h = rw (← hi, t, ← hv, ← hm, ← he, y, h)
 
-      pub verify-wrong : e ≡ false → no 15 s ≡ verifyOf s l w
+      pub verify-wrong : e ≡ false → stepNo 15 s ≡ verifyOf s l w
       unfolding verifyOf
       verify-wrong y = rw (← hi, t, ← hv, ← hm, ← he, y)
 

@@ -14,7 +14,7 @@ use Rattle.secure_keys.specs.declared.crypto.SessionKeys.{SessionKeys}
 use Rattle.secure_keys.proofs.KeysLaws.{GoodKeys, derive-good, server-block, first-block}
 use Rattle.secure_session.specs.Apart.{Apart}
 use Rattle.secure_session.specs.Handshake.{challengeOf, receiveCcryptOf, serverCryptogramOf, confirmOf, receiveChallengeOf, receiveScryptOf}
-use Rattle.secure_session.specs.Session.{endNumber, stateNumber, isAt, moved, secured, sendFrom, recvFrom}
+use Rattle.secure_session.specs.Session.{endNumber, stateNumber, isAt, withStep, secured, sendFrom, recvFrom}
 use Rattle.secure_session.specs.declared.session.End.the-variants.{Controller, Reader}
 use Rattle.secure_session.specs.declared.session.End.{End}
 use Rattle.secure_session.specs.declared.session.Session.{Session}
@@ -51,13 +51,13 @@ module _ (c r : Session) (a b : List ℕ) (h : Apart c r) where
 
   -- the ends on the way
   abbrev pub c₁ : Session
-  c₁ = moved c Challenged a (c .«rnd_b») (c .cuid) (c .keys)
+  c₁ = withStep c Challenged a (c .«rnd_b») (c .cuid) (c .keys)
 
   abbrev pub r₁ : Session
-  r₁ = moved r Challenged a b (r .cuid) keysMade
+  r₁ = withStep r Challenged a b (r .cuid) keysMade
 
   abbrev pub c₂ : Session
-  c₂ = moved c Cryptogrammed a b (r .cuid) keysMade
+  c₂ = withStep c Cryptogrammed a b (r .cuid) keysMade
 
   -- each call succeeds
   pub challenge-eq : challengeOf c a ≡ record { answer = given tt; session = c₁ }

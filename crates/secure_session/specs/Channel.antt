@@ -10,23 +10,23 @@ use Rattle.secure_keys.specs.declared.crypto.SessionKeys.{SessionKeys}
 use Rattle.secure_cipher.specs.Mac.{Mac, macOf}
 use Rattle.secure_cipher.specs.Cbc.{Done, encryptOf, decryptOf}
 use Rattle.secure_session.specs.Session.{isSecure, noKeys, sendFrom, recvFrom, sent, received}
-use Rattle.secure_session.specs.Handshake.{Step, wrongState, outcome}
+use Rattle.secure_session.specs.Handshake.{Step, wrongState, outcomeAnswer}
 use Rattle.secure_session.specs.declared.session.Session.{Session}
 use Rattle.secure_session.specs.declared.session.KeysAnswer.{KeysAnswer}
 
-abbrev pub macFrom : Session → List ℕ → List ℕ → Mac
-macFrom s v l = macOf (s .keys .«s_mac1») (s .keys .«s_mac2») v l
+abbrev pub sessionMac : Session → List ℕ → List ℕ → Mac
+sessionMac s v l = macOf (s .keys .«s_mac1») (s .keys .«s_mac2») v l
 
 -- the MAC of bytes that are sent, in full; the chain moves
 unfoldable pub makeMac : Session → List ℕ → Step (List ℕ)
 makeMac s l =
-    let m = macFrom s (sendFrom s) l .full in
+    let m = sessionMac s (sendFrom s) l .full in
     cond (isSecure (s .state)) (record { answer = given m; session = sent s m }) (wrongState s)
 
 -- the four bytes of MAC that came with bytes: the chain moves if they are right, else 15
 unfoldable pub verifyOf : Session → List ℕ → List ℕ → Step (Unit {0})
 verifyOf s l wire =
-    let m = macFrom s (recvFrom s) l .full in
+    let m = sessionMac s (recvFrom s) l .full in
     cond (isSecure (s .state))
     (cond (eql (take 4 m) wire) (record { answer = given tt; session = received s m }) (record { answer = refused 15 []; session = s }))
     (wrongState s)
@@ -51,7 +51,7 @@ openDataOf s c o = cond (isSecure (s .state)) (decryptOf (s .keys .«s_enc») (c
 -- ---- the code's answer, as the paper has it; beside a refusal the keys are all zeros
 
 abbrev pub keysAnswer : KeysAnswer → Answer SessionKeys
-keysAnswer r = outcome (r .outcome) (r .keys)
+keysAnswer r = outcomeAnswer (r .outcome) (r .keys)
 
 abbrev pub keysBeside : Answer SessionKeys → SessionKeys
 keysBeside (given k) = k

@@ -7,7 +7,7 @@ use Rattle.laws.specs.Answer.{Answer, Answer.given, Answer.refused}
 use Rattle.laws.specs.Bytes.{zeros, eql}
 use Rattle.refusal.specs.Paper.{refusalOf}
 use Rattle.secure_keys.specs.Keys.{derive, clientOf, serverOf, firstOf}
-use Rattle.secure_session.specs.Session.{isAt, reset, moved, secured}
+use Rattle.secure_session.specs.Session.{isAt, reset, withStep, secured}
 use Rattle.secure_session.specs.declared.session.End.the-variants.{Controller, Reader}
 use Rattle.secure_session.specs.declared.session.State.the-variants.{Disconnected, Challenged, Cryptogrammed}
 use Rattle.secure_session.specs.declared.session.Session.{Session}
@@ -35,7 +35,7 @@ wrongCryptogram s = record { answer = refused 15 []; session = reset s }
 unfoldable pub challengeOf : Session → List ℕ → Step (Unit {0})
 challengeOf s a =
     cond (isAt Controller Disconnected s)
-    (record { answer = given tt; session = moved s Challenged a (s .«rnd_b») (s .cuid) (s .keys) })
+    (record { answer = given tt; session = withStep s Challenged a (s .«rnd_b») (s .cuid) (s .keys) })
     (wrongState s)
 
 -- from Challenged: the keys are derived, and the client cryptogram must be right
@@ -44,7 +44,7 @@ receiveCcryptOf s u b c =
     let k = derive (s .scbk) (s .«rnd_a») in
     cond (isAt Controller Challenged s)
     (cond (eql (clientOf (k .«s_enc») (s .«rnd_a») b) c)
-    (record { answer = given tt; session = moved s Cryptogrammed (s .«rnd_a») b u k })
+    (record { answer = given tt; session = withStep s Cryptogrammed (s .«rnd_a») b u k })
     (wrongCryptogram s))
     (wrongState s)
 
@@ -78,7 +78,7 @@ unfoldable pub receiveChallengeOf : Session → List ℕ → List ℕ → Step (
 receiveChallengeOf s a b =
     let k = derive (s .scbk) a in
     cond (isAt Reader Disconnected s)
-    (record { answer = given (clientOf (k .«s_enc») a b); session = moved s Challenged a b (s .cuid) k })
+    (record { answer = given (clientOf (k .«s_enc») a b); session = withStep s Challenged a b (s .cuid) k })
     (wrongState s)
 
 -- from Challenged: a right server cryptogram makes it Secure and is answered by the first chain value
@@ -92,18 +92,18 @@ receiveScryptOf s c =
 
 -- ---- the code's answers, as the paper has them; beside a refusal a block is all zeros
 
-abbrev pub outcome : {A : Type 0} → Outcome → A → Answer A
-outcome Outcome.Done a = given a
-outcome (Outcome.Refused e) a = refusalOf e
+abbrev pub outcomeAnswer : {A : Type 0} → Outcome → A → Answer A
+outcomeAnswer Outcome.Done a = given a
+outcomeAnswer (Outcome.Refused e) a = refusalOf e
 
 abbrev pub stepped : Stepped → Step (Unit {0})
-stepped r = record { answer = outcome (r .outcome) tt; session = r .session }
+stepped r = record { answer = outcomeAnswer (r .outcome) tt; session = r .session }
 
 abbrev pub steppedBlock : SteppedBlock → Step (List ℕ)
-steppedBlock r = record { answer = outcome (r .outcome) (r .block); session = r .session }
+steppedBlock r = record { answer = outcomeAnswer (r .outcome) (r .block); session = r .session }
 
 abbrev pub blockAnswer : BlockAnswer → Answer (List ℕ)
-blockAnswer r = outcome (r .outcome) (r .block)
+blockAnswer r = outcomeAnswer (r .outcome) (r .block)
 
 -- the block of an answer: zeros beside a refusal
 abbrev pub blockBeside : Answer (List ℕ) → List ℕ

@@ -56,8 +56,8 @@ unfoldable pub wipedOf : Session → Session
 wipedOf s = fresh (s .end) (zeros 16) (zeros 8)
 
 -- a step of the handshake: end, SCBK and chain stay
-abbrev pub moved : Session → State → List ℕ → List ℕ → List ℕ → SessionKeys → Session
-moved s t a b u k = record { end = s .end; state = t; scbk = s .scbk; «rnd_a» = a; «rnd_b» = b; cuid = u; keys = k; chain = s .chain }
+abbrev pub withStep : Session → State → List ℕ → List ℕ → List ℕ → SessionKeys → Session
+withStep s t a b u k = record { end = s .end; state = t; scbk = s .scbk; «rnd_a» = a; «rnd_b» = b; cuid = u; keys = k; chain = s .chain }
 
 -- ---- the chain value, touched only through these five
 
@@ -82,4 +82,4 @@ received s m = withChain s m
 
 -- Secure, with the first chain value m
 unfoldable pub secured : Session → List ℕ → Session
-secured s m = withChain (moved s Secure (s .«rnd_a») (s .«rnd_b») (s .cuid) (s .keys)) m
+secured s m = withChain (withStep s Secure (s .«rnd_a») (s .«rnd_b») (s .cuid) (s .keys)) m

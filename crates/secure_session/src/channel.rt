@@ -1,9 +1,9 @@
 // What a session that is Secure does to bytes, at either end.
 ghost use mathlib.Core.Path.{_≡_};
-ghost use Rattle.secure_cipher.specs.Cbc.{told};
+ghost use Rattle.secure_cipher.specs.Cbc.{cipherTold};
 ghost use Rattle.secure_session.specs.Session.{isSecure, sendFrom, recvFrom, sent, received};
 ghost use Rattle.secure_session.specs.Handshake.{stepped, steppedBlock, blockAnswer, blockBeside};
-ghost use Rattle.secure_session.specs.Channel.{macFrom, makeMac, verifyOf, keysOf, lastOtherMacOf, sealDataOf, openDataOf, keysAnswer, keysBeside};
+ghost use Rattle.secure_session.specs.Channel.{sessionMac, makeMac, verifyOf, keysOf, lastOtherMacOf, sealDataOf, openDataOf, keysAnswer, keysBeside};
 use super::session;
 use super::session::BlockAnswer;
 use super::session::KeysAnswer;
@@ -57,7 +57,7 @@ impl Session {
 
     // The full MAC from a chain value on, with the session's keys.
     fn full_mac(self, start: [u8; 16], bytes: &[u8]) -> [u8; 16]
-        ensures { λ r. ⌜ r ≡ macFrom self start (now (bytes .entry)) .full ⌝ }
+        ensures { λ r. ⌜ r ≡ sessionMac self start (now (bytes .entry)) .full ⌝ }
     {
         let k = self.keys;
         let s_mac1 = k.s_mac1;
@@ -161,7 +161,7 @@ impl Session {
 
     // Enciphers a payload into out, from the complement of the chain value.
     pub fn seal_data(self, data: &[u8], out: &mut [u8]) -> Ciphered
-        ensures { λ r. ⌜ told r (now (out .exit)) ≡ sealDataOf self (now («data» .entry)) (now (out .entry)) ⌝ }
+        ensures { λ r. ⌜ cipherTold r (now (out .exit)) ≡ sealDataOf self (now («data» .entry)) (now (out .entry)) ⌝ }
     {
         let state = self.state;
         if is_secure(state) {
@@ -179,7 +179,7 @@ impl Session {
 
     // Deciphers encrypted data into out, from the complement of the chain value.
     pub fn open_data(self, ct: &[u8], out: &mut [u8]) -> Ciphered
-        ensures { λ r. ⌜ told r (now (out .exit)) ≡ openDataOf self (now (ct .entry)) (now (out .entry)) ⌝ }
+        ensures { λ r. ⌜ cipherTold r (now (out .exit)) ≡ openDataOf self (now (ct .entry)) (now (out .entry)) ⌝ }
     {
         let state = self.state;
         if is_secure(state) {

@@ -2,7 +2,7 @@
 ghost use mathlib.Core.Path.{_≡_};
 ghost use Rattle.laws.specs.Bytes.{zeros};
 ghost use Rattle.secure_keys.specs.Keys.{firstOf};
-ghost use Rattle.secure_session.specs.Session.{endNumber, stateNumber, isAt, noKeys, fresh, reset, wipedOf, moved, secured};
+ghost use Rattle.secure_session.specs.Session.{endNumber, stateNumber, isAt, noKeys, fresh, reset, wipedOf, withStep, secured};
 ghost use Rattle.secure_session.specs.declared.session.End.the-variants.{Controller, Reader};
 ghost use Rattle.secure_session.specs.Handshake.{challengeOf, receiveCcryptOf, serverCryptogramOf, initialRmacOf, confirmOf, receiveChallengeOf, receiveScryptOf, serverFor, stepped, steppedBlock, blockAnswer, blockBeside};
 use refusal::Refusal;
@@ -164,7 +164,7 @@ impl Session {
         cuid: [u8; 8],
         keys: SessionKeys,
     ) -> Session
-        ensures { λ r. ⌜ r ≡ moved self state «rnd_a» «rnd_b» cuid keys ⌝ }
+        ensures { λ r. ⌜ r ≡ withStep self state «rnd_a» «rnd_b» cuid keys ⌝ }
     {
         let end = self.end;
         let scbk = self.scbk;

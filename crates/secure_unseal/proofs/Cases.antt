@@ -19,7 +19,7 @@ use Rattle.secure_cipher.specs.Mac.{Mac, macOf}
 use Rattle.secure_keys.specs.declared.crypto.SessionKeys.{SessionKeys}
 use Rattle.secure_session.specs.Session.{isSecure, recvFrom, received}
 use Rattle.secure_session.specs.declared.session.Session.{Session}
-use Rattle.secure_unseal.specs.Unseal.{Checked, UnsealRun, check, openData, unsealPlain, unsealOpened, unsealHidden, unsealParsed, unsealRun, unsealOf, afterUnseal, settled}
+use Rattle.secure_unseal.specs.Unseal.{Checked, UnsealRun, check, openData, unsealPlain, unsealOpened, unsealHidden, unsealParsed, unsealRun, unsealOf, afterUnseal, unsealedOn}
 use Rattle.secure_unseal.specs.Parts.{ran, stopped}
 use Rattle.secure_unseal.specs.declared.frame.Run.{Run}
 
@@ -159,10 +159,10 @@ module _ (s : Session) (f w : List ℕ) where
   abbrev wrong-state : UnsealRun
   wrong-state = record { answer = refused 16 []; moved = none; work = w; steps = 0 }
 
-  pub on-secure : {x : UnsealRun} → isSecure (s .state) ≡ true → x ≡ unsealParsed (s .keys) (recvFrom s) f (parseOf f) w → settled s x ≡ unsealOf s f w
+  pub on-secure : {x : UnsealRun} → isSecure (s .state) ≡ true → x ≡ unsealParsed (s .keys) (recvFrom s) f (parseOf f) w → unsealedOn s x ≡ unsealOf s f w
   unfolding unsealOf unsealRun
-  on-secure h e = ap (settled s) (e ∙ yes (unsealParsed (s .keys) (recvFrom s) f (parseOf f) w) wrong-state h)
+  on-secure h e = ap (unsealedOn s) (e ∙ yes (unsealParsed (s .keys) (recvFrom s) f (parseOf f) w) wrong-state h)
 
   pub on-other : isSecure (s .state) ≡ false → record { answer = refused 16 []; session = s; work = w; steps = 0 } ≡ unsealOf s f w
   unfolding unsealOf unsealRun afterUnseal
-  on-other h = ap (settled s) (no (unsealParsed (s .keys) (recvFrom s) f (parseOf f) w) wrong-state h)
+  on-other h = ap (unsealedOn s) (no (unsealParsed (s .keys) (recvFrom s) f (parseOf f) w) wrong-state h)

@@ -1,7 +1,7 @@
 -- Of an accepted frame the data lies inside what was read, and so does the MAC where one is due.
 -- Assumes nothing.
 use mathlib.Core.Path.{_≡_, _∙_}
-use mathlib.Core.Bool.{Bool, true, false}
+use mathlib.Core.Bool.{true, false≢true}
 use mathlib.Core.List.{List}
 use Prim.Native.Nat.{ℕ, _+_, _≤_}
 use native.Mathlib.Omega.{arith}
@@ -13,7 +13,7 @@ use Rattle.packet_parse.proofs.MacDue.{there, accepted-due}
 use Rattle.packet_parse.proofs.Within.{MacInside, accepted-inside}
 
 inside : (m : MacAt) (end len : ℕ) → there m ≡ true → MacInside m end len → macStart m + 4 ≤ len
-inside noMac end len h i = let z : _≡_ {A = Bool} false true = h in absurd (let n : _≡_ {A = ℕ} 0 1 = cc in omega arith)
+inside noMac end len h i = absurd (false≢true h)
 inside (macFrom at) end len h i = omega arith
 
 module _ (s : List ℕ) (F : Fields) (e : parseOf s ≡ given F) where

@@ -10,24 +10,24 @@ use borrow.Author.Tests.{lt-ltb, le-ltb, ltb-true, ltb-false}
 use lib.Dec.{ltb}
 use lib.ListN.{length, take, drop}
 use Rattle.laws.specs.Answer.{Answer.given, Answer.refused, refuseIf}
-use Rattle.secure_unseal.specs.Lookup.{sliceFor, shown, carried, shownTest}
+use Rattle.secure_unseal.specs.Lookup.{sliceFor, payloadShown, saturated, shownTest}
 
 -- ---- laws for the theory above
 
 module _ (i : Bool) (start len : ℕ) (f w : List ℕ) where
-  pub shown-inside : start + len ≤ length (sliceFor i f w) → shown i start len f w ≡ take len (drop start (sliceFor i f w))
-  unfolding shown
+  pub shown-inside : start + len ≤ length (sliceFor i f w) → payloadShown i start len f w ≡ take len (drop start (sliceFor i f w))
+  unfolding payloadShown
   shown-inside h = rw (le-ltb (length (sliceFor i f w)) (start + len) h)
 
-  pub shown-outside : length (sliceFor i f w) < start + len → shown i start len f w ≡ []
-  unfolding shown
+  pub shown-outside : length (sliceFor i f w) < start + len → payloadShown i start len f w ≡ []
+  unfolding payloadShown
   shown-outside h = rw (lt-ltb (length (sliceFor i f w)) (start + len) h)
 
   pub test-inside : start + len ≤ length (sliceFor i f w) → shownTest i start len f w ≡ given tt
   unfolding shownTest refuseIf
   test-inside h = rw (le-ltb (length (sliceFor i f w)) (start + len) h)
 
-  pub test-outside : length (sliceFor i f w) < start + len → shownTest i start len f w ≡ refused 1 (length (sliceFor i f w) ∷ carried (start + len) ∷ [])
+  pub test-outside : length (sliceFor i f w) < start + len → shownTest i start len f w ≡ refused 1 (length (sliceFor i f w) ∷ saturated (start + len) ∷ [])
   unfolding shownTest refuseIf
   test-outside h = rw (lt-ltb (length (sliceFor i f w)) (start + len) h)
 
@@ -48,15 +48,15 @@ pub in-frame : (f w : List ℕ) {i : Bool} → i ≡ false → f ≡ sliceFor i 
 in-frame f w h = rw h
 
 module _ (i : Bool) (start len : ℕ) (f w : List ℕ) {s : List ℕ} (hs : s ≡ sliceFor i f w) where
-  pub test-in : refuseIf (ltb (length s) (start + len)) 1 (length s ∷ carried (start + len) ∷ []) (given tt) ≡ shownTest i start len f w
+  pub test-in : refuseIf (ltb (length s) (start + len)) 1 (length s ∷ saturated (start + len) ∷ []) (given tt) ≡ shownTest i start len f w
   unfolding shownTest
   test-in = rw (← hs)
 
   module _ {o : Bool} (ho : o ≡ ltb (length s) (start + len)) where
-    pub shows-nothing : o ≡ true → [] ≡ shown i start len f w
-    unfolding shown
+    pub shows-nothing : o ≡ true → [] ≡ payloadShown i start len f w
+    unfolding payloadShown
     shows-nothing h = rw (← hs, ← ho, h)
 
-    pub shows-part : o ≡ false → take (start + len - start) (drop start s) ≡ shown i start len f w
-    unfolding shown
+    pub shows-part : o ≡ false → take (start + len - start) (drop start s) ≡ payloadShown i start len f w
+    unfolding payloadShown
     shows-part h = rw (← hs, ← ho, h, add-sub-cancel-left)

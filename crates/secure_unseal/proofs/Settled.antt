@@ -7,7 +7,7 @@ use Rattle.laws.specs.Answer.{Answer, Answer.given, Answer.refused}
 use Rattle.laws.proofs.Answers.{one-reading}
 use Rattle.refusal.proofs.OneReading.{named, told-back}
 use Rattle.secure_unseal.specs.Unseal.{Place, UnsealDone, placeAnswer, unsealTold}
-use Rattle.secure_unseal.specs.Lookup.{tested}
+use Rattle.secure_unseal.specs.Lookup.{payloadTested}
 use Rattle.secure_unseal.specs.declared.frame.PlaceAnswer.{PlaceAnswer}
 use Rattle.secure_unseal.specs.declared.frame.Unsealed.{Unsealed}
 use Rattle.secure_unseal.specs.declared.lookup.PayloadTest.{PayloadTest}
@@ -37,9 +37,9 @@ abbrev testFrom : Answer (Unit {0}) → PayloadTest
 testFrom (given u) = PayloadTest.Fits
 testFrom (refused n vs) = PayloadTest.Refused (named n vs)
 
-test-back : (r : PayloadTest) → testFrom (tested r) ≡ r
+test-back : (r : PayloadTest) → testFrom (payloadTested r) ≡ r
 test-back PayloadTest.Fits = refl
 test-back (PayloadTest.Refused e) = ap PayloadTest.Refused (told-back e)
 
-pub test-settled : (r s : PayloadTest) → tested r ≡ tested s → r ≡ s
-test-settled = one-reading tested testFrom test-back
+pub test-settled : (r s : PayloadTest) → payloadTested r ≡ payloadTested s → r ≡ s
+test-settled = one-reading payloadTested testFrom test-back

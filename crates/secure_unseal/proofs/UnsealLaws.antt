@@ -13,6 +13,7 @@ use lib.Seq.{length-take-le, take-append-le, take-at}
 use Rattle.laws.specs.Answer.{Answer, Answer.given, Answer.refused}
 use Rattle.laws.specs.Bytes.{compl, eql, zeros}
 use Rattle.laws.specs.Over.{write}
+use Rattle.laws.proofs.Answers.{given-refused}
 use Rattle.laws.proofs.ByteLists.{eql-refl}
 use Rattle.laws.proofs.Overwrite.{length-write}
 use Rattle.packet_head.specs.Block.{hasMac, isEncrypted}
@@ -23,8 +24,8 @@ use Rattle.secure_keys.specs.declared.crypto.SessionKeys.{SessionKeys}
 use Rattle.secure_session.specs.Session.{isSecure, recvFrom}
 use Rattle.secure_session.specs.declared.session.State.{State}
 use Rattle.secure_session.specs.declared.session.Session.{Session}
-use Rattle.secure_unseal.specs.Unseal.{Checked, Place, UnsealRun, check, openData, unsealPlain, unsealOpened, unsealHidden, unsealParsed, unsealRun, unsealOf, afterUnseal}
-use Rattle.secure_unseal.specs.Lookup.{shown}
+use Rattle.secure_unseal.specs.Unseal.{Checked, UnsealRun, check, openData, unsealPlain, unsealOpened, unsealHidden, unsealParsed, unsealRun, unsealOf, afterUnseal}
+use Rattle.secure_unseal.specs.Lookup.{payloadShown}
 use Rattle.secure_unseal.proofs.Cases.{yes, no, parsed-hidden, parsed-plain}
 use Rattle.secure_unseal.proofs.LookupLaws.{shown-inside}
 use Rattle.secure_unseal.proofs.Inside.{data-inside}
@@ -88,11 +89,11 @@ module _ (t : State) (k : SessionKeys) (v f : List ℕ) (p : Fields) (w : List �
 -- ---- what the lookup shows of it
 
 -- types 15 and 16: the frame's data
-pub plain-shown : (f w : List ℕ) (p : Fields) → parseOf f ≡ given p → shown false (p .dataStart) (p .dataLen) f w ≡ take (p .dataLen) (drop (p .dataStart) f)
+pub plain-shown : (f w : List ℕ) (p : Fields) → parseOf f ≡ given p → payloadShown false (p .dataStart) (p .dataLen) f w ≡ take (p .dataLen) (drop (p .dataStart) f)
 plain-shown f w p e = shown-inside false (p .dataStart) (p .dataLen) f w (data-inside f p e)
 
 -- types 17 and 18: the text up to its padding
-pub hidden-shown : (f w x : List ℕ) (l n : ℕ) → l ≤ length x → l ≤ n → n ≤ length w → shown true 0 l f (laid l n x w) ≡ take l x
+pub hidden-shown : (f w x : List ℕ) (l n : ℕ) → l ≤ length x → l ≤ n → n ≤ length w → payloadShown true 0 l f (laid l n x w) ≡ take l x
 unfolding laid write
 hidden-shown f w x l n hl hn hw =
     let s : List ℕ = take l x ++ zeros (n - l) in
@@ -110,16 +111,13 @@ still-cond : (b : Bool) (x y : UnsealRun) → Still x → Still y → Still (con
 still-cond true x y hx hy = hx
 still-cond false x y hx hy = hy
 
-never : (x : Place) (n : ℕ) (vs : List ℕ) → given x ≡ refused n vs → ⊥
-never x n vs e = let z : _≡_ {A = ℕ} 0 1 = cc in omega arith
-
 plain-still : (c : Checked) (p : Fields) (w : List ℕ) → Still (unsealPlain c p w)
 unfolding unsealPlain
-plain-still c p w = still-cond (c .right) _ _ (λ n vs e. absurd (never _ n vs e)) (λ n vs e. refl)
+plain-still c p w = still-cond (c .right) _ _ (λ n vs e. absurd (given-refused e)) (λ n vs e. refl)
 
 opened-still : (c : Checked) (n : ℕ) (o : Opening) (a : Answer ℕ) (w : List ℕ) → Still (unsealOpened c n o a w)
 unfolding unsealOpened
-opened-still c n o (given l) w = still-cond (c .right) _ _ (λ m vs e. absurd (never _ m vs e)) (λ m vs e. refl)
+opened-still c n o (given l) w = still-cond (c .right) _ _ (λ m vs e. absurd (given-refused e)) (λ m vs e. refl)
 opened-still c n o (refused j us) w = λ m vs e. refl
 
 hidden-still : (c : Checked) (o : Opening) (p : Fields) (w : List ℕ) → Still (unsealHidden c o p w)
@@ -155,7 +153,7 @@ leaves-cond z false x y hx hy = hy
 
 opened-leaves : (c : Checked) (n : ℕ) (o : Opening) (a : Answer ℕ) (w : List ℕ) → Leaves (wiped n w) (unsealOpened c n o a w)
 unfolding unsealOpened
-opened-leaves c n o (given l) w = leaves-cond (wiped n w) (c .right) _ _ (λ m vs e. absurd (never _ m vs e)) (λ m vs e. refl)
+opened-leaves c n o (given l) w = leaves-cond (wiped n w) (c .right) _ _ (λ m vs e. absurd (given-refused e)) (λ m vs e. refl)
 opened-leaves c n o (refused j us) w = λ m vs e. refl
 
 after-18 : (z : List ℕ) (b : Bool) (x y : UnsealRun) (us : List ℕ) → x .answer ≡ refused 18 us → Leaves z y

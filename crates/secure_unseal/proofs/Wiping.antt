@@ -11,6 +11,7 @@ use lib.ListN.{length, take, drop, length-append, length-replicate}
 use lib.Seq.{length-take-le}
 use Rattle.laws.specs.Answer.{Answer, Answer.given, Answer.refused}
 use Rattle.laws.specs.Bytes.{Bytes, zeros, compl}
+use Rattle.laws.proofs.Answers.{given-refused}
 use Rattle.laws.proofs.ByteLists.{bytes-take, bytes-drop}
 use Rattle.laws.specs.Blocks.{Block, Blocks, blocks, flat}
 use Rattle.laws.proofs.BlockLists.{block-xorl, length-blocks, length-flat, blocks-blocks, block-compl}
@@ -65,7 +66,7 @@ pub record Sized (n l : ℕ) (t : List ℕ) : Type 0 where
   pub most : length t ≤ n
 
 sized-or : (b : Bool) (o : Opening) (n l : ℕ) → (o .answer ≡ given l → Sized n l (o .text)) → refusedOr b o .answer ≡ given l → Sized n l (refusedOr b o .text)
-sized-or true o n l f e = absurd (let z : _≡_ {A = ℕ} 0 1 = cc in omega arith)
+sized-or true o n l f e = absurd (given-refused (sym e))
 sized-or false o n l f e = f e
 
 module _ (k v c : List ℕ) (hk : Block k) (hv : Block v) (hc : Bytes c) where
@@ -88,7 +89,7 @@ module _ (k v c : List ℕ) (hk : Block k) (hv : Block v) (hc : Bytes c) where
   opened-wiped : (o : List ℕ) (p : Opening) (a : Answer ℕ) (l : ℕ) → a ≡ given l → Sized (length c) l (p .text) → wiped (length c) (openedInto (length c) p a o) ≡ wiped (length c) o
   unfolding openedInto
   opened-wiped o p (given j) l e s = let h : j ≡ l = cc in wiped-laid o (p .text) j (rw h s)
-  opened-wiped o p (refused m vs) l e s = absurd (let z : _≡_ {A = ℕ} 0 1 = cc in omega arith)
+  opened-wiped o p (refused m vs) l e s = absurd (given-refused (sym e))
 
   -- a deciphering that was not refused by 18
   abbrev or18 : Bool → List ℕ → Opening → Done
@@ -98,7 +99,7 @@ module _ (k v c : List ℕ) (hk : Block k) (hv : Block v) (hc : Bytes c) where
 
   wiped-or : (b : Bool) (o : List ℕ) (p : Opening) (l : ℕ) → (p .answer ≡ given l → Sized (length c) l (p .text))
       → or18 b o p .answer ≡ given l → wiped (length c) (or18 b o p .out) ≡ wiped (length c) o
-  wiped-or true o p l f e = absurd (let z : _≡_ {A = ℕ} 0 1 = cc in omega arith)
+  wiped-or true o p l f e = absurd (given-refused (sym e))
   wiped-or false o p l f e = opened-wiped o p (p .answer) l e (f e)
 
   wiped-again : (o : List ℕ) (l : ℕ) → decryptOf k v c o .answer ≡ given l → wiped (length c) (decryptOf k v c o .out) ≡ wiped (length c) o
@@ -108,7 +109,7 @@ module _ (k v c : List ℕ) (hk : Block k) (hv : Block v) (hc : Bytes c) where
 -- ---- as the code finds it: the n bytes of f from `at` on, deciphered into w
 
 room-or : (b : Bool) (o c : List ℕ) (x y : Done) (l n : ℕ) (vs : List ℕ) → x .answer ≡ refused n vs → ltb (length o) (length c) ≡ b → cond b x y .answer ≡ given l → length c ≤ length o
-room-or true o c x y l n vs r h e = absurd (let z : _≡_ {A = ℕ} 0 1 = cc in omega arith)
+room-or true o c x y l n vs r h e = absurd (given-refused (sym e ∙ r))
 room-or false o c x y l n vs r h e = ltb-false (length o) (length c) h
 
 decrypt-room : (k v c o : List ℕ) (l : ℕ) → decryptOf k v c o .answer ≡ given l → length c ≤ length o

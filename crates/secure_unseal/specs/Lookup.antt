@@ -14,20 +14,20 @@ abbrev pub sliceFor : Bool → List ℕ → List ℕ → List ℕ
 sliceFor inWork f w = cond inWork w f
 
 -- the part of that slice, or the frame's empty first part
-unfoldable pub shown : Bool → ℕ → ℕ → List ℕ → List ℕ → List ℕ
-shown inWork start len f w = cond (ltb (length (sliceFor inWork f w)) (start + len)) [] (take len (drop start (sliceFor inWork f w)))
+unfoldable pub payloadShown : Bool → ℕ → ℕ → List ℕ → List ℕ → List ℕ
+payloadShown inWork start len f w = cond (ltb (length (sliceFor inWork f w)) (start + len)) [] (take len (drop start (sliceFor inWork f w)))
 
 -- a number as 64 bits carry it
-abbrev pub carried : ℕ → ℕ
-carried n = cond (ltb n (2 ^ 64)) n 18446744073709551615
+abbrev pub saturated : ℕ → ℕ
+saturated n = cond (ltb n (2 ^ 64)) n 18446744073709551615
 
 -- outside: 1 (slice length, end needed)
 unfoldable pub shownTest : Bool → ℕ → ℕ → List ℕ → List ℕ → Answer (Unit {0})
 shownTest inWork start len f w =
-    refuseIf (ltb (length (sliceFor inWork f w)) (start + len)) 1 (length (sliceFor inWork f w) ∷ carried (start + len) ∷ []) (given tt)
+    refuseIf (ltb (length (sliceFor inWork f w)) (start + len)) 1 (length (sliceFor inWork f w) ∷ saturated (start + len) ∷ []) (given tt)
 
 -- ---- the code's answer, as the paper has it
 
-abbrev pub tested : PayloadTest → Answer (Unit {0})
-tested PayloadTest.Fits = given tt
-tested (PayloadTest.Refused e) = refusalOf e
+abbrev pub payloadTested : PayloadTest → Answer (Unit {0})
+payloadTested PayloadTest.Fits = given tt
+payloadTested (PayloadTest.Refused e) = refusalOf e

@@ -53,8 +53,8 @@ pub record UnsealRun : Type 0 where
   pub work : List ℕ
   pub steps : ℕ
 
-abbrev stop : ℕ → List ℕ → List ℕ → UnsealRun
-stop n vs w = record { answer = refused n vs; moved = none; work = w; steps = 0 }
+abbrev unsealStop : ℕ → List ℕ → List ℕ → UnsealRun
+unsealStop n vs w = record { answer = refused n vs; moved = none; work = w; steps = 0 }
 
 -- types 15 and 16: 15; the work buffer stays
 unfoldable pub unsealPlain : Checked → Fields → List ℕ → UnsealRun
@@ -74,7 +74,7 @@ unsealOpened c n o (refused m vs) w = record { answer = refused m vs; moved = no
 -- 18 (need, have), then the opening and the check
 unfoldable pub unsealHidden : Checked → Opening → Fields → List ℕ → UnsealRun
 unsealHidden c o p w =
-    cond (ltb (length w) (p .dataLen)) (stop 18 (p .dataLen ∷ length w ∷ []) w) (unsealOpened c (p .dataLen) o (o .answer) w)
+    cond (ltb (length w) (p .dataLen)) (unsealStop 18 (p .dataLen ∷ length w ∷ []) w) (unsealOpened c (p .dataLen) o (o .answer) w)
 
 -- no block, or type 11 to 14: 13
 unfoldable pub unsealParsed : SessionKeys → List ℕ → List ℕ → Answer Fields → List ℕ → UnsealRun
@@ -82,12 +82,12 @@ unsealParsed k v f (given p) w =
     let c = check k v f (macStart (p .mac)) in
     cond (hasMac (typeIn (p .block)))
     (cond (isEncrypted (typeIn (p .block))) (unsealHidden c (openData k v f p) p w) (unsealPlain c p w))
-    (stop 13 [] w)
-unsealParsed k v f (refused n vs) w = stop n vs w
+    (unsealStop 13 [] w)
+unsealParsed k v f (refused n vs) w = unsealStop n vs w
 
 -- 16, 1 to 8, 13, 18, 14, 15
 unfoldable pub unsealRun : State → SessionKeys → List ℕ → List ℕ → List ℕ → UnsealRun
-unsealRun t k v f w = cond (isSecure t) (unsealParsed k v f (parseOf f) w) (stop 16 [] w)
+unsealRun t k v f w = cond (isSecure t) (unsealParsed k v f (parseOf f) w) (unsealStop 16 [] w)
 
 -- ---- on a session
 
@@ -103,11 +103,11 @@ afterUnseal s none = s
 afterUnseal s (some m) = received s m
 
 -- a run, put on a session
-abbrev pub settled : Session → UnsealRun → UnsealDone
-settled s r = record { answer = r .answer; session = afterUnseal s (r .moved); work = r .work; steps = r .steps }
+abbrev pub unsealedOn : Session → UnsealRun → UnsealDone
+unsealedOn s r = record { answer = r .answer; session = afterUnseal s (r .moved); work = r .work; steps = r .steps }
 
 unfoldable pub unsealOf : Session → List ℕ → List ℕ → UnsealDone
-unsealOf s f w = settled s (unsealRun (s .state) (s .keys) (recvFrom s) f w)
+unsealOf s f w = unsealedOn s (unsealRun (s .state) (s .keys) (recvFrom s) f w)
 
 -- ---- the code's answer, as the paper has it; `w` is the work buffer in the end
 

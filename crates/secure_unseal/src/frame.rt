@@ -6,8 +6,8 @@ ghost use lib.ListN.{length, take, drop};
 ghost use Rattle.laws.specs.Answer.{Answer.given};
 ghost use Rattle.laws.specs.Bytes.{compl, eql};
 ghost use Rattle.packet_parse.specs.Frame.{macStart, parseOf, fields, macPlace};
-ghost use Rattle.secure_cipher.specs.Cbc.{decryptOf, wiped, told};
-ghost use Rattle.secure_unseal.specs.Unseal.{check, openData, unsealPlain, unsealHidden, unsealParsed, settled, unsealOf, unsealTold};
+ghost use Rattle.secure_cipher.specs.Cbc.{decryptOf, wiped, cipherTold};
+ghost use Rattle.secure_unseal.specs.Unseal.{check, openData, unsealPlain, unsealHidden, unsealParsed, unsealedOn, unsealOf, unsealTold};
 ghost use Rattle.secure_unseal.specs.Parts.{checked, ran, stopped};
 use packet_parse::BlockPart;
 use packet_parse::MacPart;
@@ -85,7 +85,7 @@ fn open_data(
     work: &mut [u8],
 ) -> Ciphered
     requires { ⌜ at + len ≤ length (now frame) ⌝ }
-    ensures { λ r. ⌜ told r (now (work .exit)) ≡ decryptOf (keys .«s_enc») (compl start) (take len (drop at (now (frame .entry)))) (now (work .entry)) ⌝ }
+    ensures { λ r. ⌜ cipherTold r (now (work .exit)) ≡ decryptOf (keys .«s_enc») (compl start) (take len (drop at (now (frame .entry)))) (now (work .entry)) ⌝ }
 {
     let s_enc = keys.s_enc;
     let iv = secure_cipher::complement_icv(start);
@@ -231,8 +231,8 @@ fn unseal_frame(keys: SessionKeys, start: [u8; 16], frame: &[u8], work: &mut [u8
 }
 
 // What the core came to, put on a session.
-fn settled(session: Session, r: Run) -> Unsealed
-    ensures { λ u. ⌜ ((w : List ℕ) → unsealTold u w ≡ settled session (ran r w)) ⌝ }
+fn unsealed_on(session: Session, r: Run) -> Unsealed
+    ensures { λ u. ⌜ ((w : List ℕ) → unsealTold u w ≡ unsealedOn session (ran r w)) ⌝ }
 {
     let answer = r.answer;
     if r.moved {
@@ -261,7 +261,7 @@ pub fn unseal(session: Session, frame: &[u8], work: &mut [u8]) -> Unsealed
         let keys = session.keys;
         let start = session.recv_from();
         let r = unseal_frame(keys, start, frame, work);
-        settled(session, r)
+        unsealed_on(session, r)
     } else {
         Unsealed {
             answer: PlaceAnswer::Refused(Refusal::WrongState),

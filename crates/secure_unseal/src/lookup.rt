@@ -4,7 +4,7 @@ ghost use mathlib.Core.List.{[], _∷_};
 ghost use Prim.Native.Nat.{_+_};
 ghost use lib.Dec.{ltb};
 ghost use Rattle.laws.specs.Answer.{Answer.given, refuseIf};
-ghost use Rattle.secure_unseal.specs.Lookup.{shown, carried, shownTest, tested};
+ghost use Rattle.secure_unseal.specs.Lookup.{payloadShown, saturated, shownTest, payloadTested};
 use refusal::Refusal;
 
 pub enum PayloadTest {
@@ -24,7 +24,7 @@ fn outside(size: usize, start: usize, len: usize) -> bool
 
 // The end of a place, as 64 bits carry it.
 fn end_of(start: usize, len: usize) -> usize
-    ensures { λ r. ⌜ r ≡ carried (start + len) ⌝ }
+    ensures { λ r. ⌜ r ≡ saturated (start + len) ⌝ }
 {
     if outside(0xffff_ffff_ffff_ffff, start, len) {
         0xffff_ffff_ffff_ffff
@@ -41,7 +41,7 @@ pub fn payload<'a>(
     start: usize,
     len: usize,
 ) -> &'a [u8]
-    ensures { λ r. ⌜ now r ≡ shown «in_work» start len (now (frame .entry)) (now (work .entry)) ⌝ }
+    ensures { λ r. ⌜ now r ≡ payloadShown «in_work» start len (now (frame .entry)) (now (work .entry)) ⌝ }
 {
     if in_work {
         if outside(work.len(), start, len) {
@@ -56,7 +56,7 @@ pub fn payload<'a>(
 }
 
 fn test(size: usize, start: usize, len: usize) -> PayloadTest
-    ensures { λ r. ⌜ tested r ≡ refuseIf (ltb size (start + len)) 1 (size ∷ carried (start + len) ∷ []) (given tt) ⌝ }
+    ensures { λ r. ⌜ payloadTested r ≡ refuseIf (ltb size (start + len)) 1 (size ∷ saturated (start + len) ∷ []) (given tt) ⌝ }
 {
     if outside(size, start, len) {
         PayloadTest::Refused(Refusal::Truncated {
@@ -76,7 +76,7 @@ pub fn payload_test(
     start: usize,
     len: usize,
 ) -> PayloadTest
-    ensures { λ r. ⌜ tested r ≡ shownTest «in_work» start len (now (frame .entry)) (now (work .entry)) ⌝ }
+    ensures { λ r. ⌜ payloadTested r ≡ shownTest «in_work» start len (now (frame .entry)) (now (work .entry)) ⌝ }
 {
     if in_work {
         test(work.len(), start, len)

@@ -10,13 +10,13 @@ use Rattle.laws.specs.Answer.{Answer.given}
 use Rattle.refusal.specs.Paper.{refusalOf}
 use Rattle.packet_parse.specs.Frame.{Fields, fields, parsed, parseOf}
 use Rattle.packet_parse.proofs.Within.{Inside, accepted-inside}
-use Rattle.listing.proofs.Passing.{Passed, passed-none, passed-more, passed-refused, passed-all}
+use Rattle.listing.proofs.Passing.{PassedFrames, passed-none, passed-more, passed-refused, passed-all}
 use borrow.Author.Needs.{needs}
 use Rattle.listing.proofs.list.Statement.{statement}
 use Rattle.listing.proofs.list.Tie as tie
 
 abbrev Inv-loop : tie.InvT-loop
-Inv-loop capture at₀ at = Passed capture at
+Inv-loop capture at₀ at = PassedFrames capture at
 
 abbrev μ-loop : tie.MeasureT-loop
 μ-loop capture at₀ at = length capture - at
@@ -25,14 +25,14 @@ rest-of : (s : List ℕ) (at : ℕ) → take (length s - at) (drop at s) ≡ dro
 rest-of s at = take-all (length s - at) (drop at s) (simp length-drop (omega arith))
 
 -- where a frame was read: the turn, the place, the capture, and the frame
-abbrev turn : (c : tie.After-struct-known Inv-loop μ-loop) → tie.In-loop Inv-loop μ-loop
-turn c = c .before .before .before .before .before .before .before
+abbrev turning : (c : tie.After-struct-known Inv-loop μ-loop) → tie.In-loop Inv-loop μ-loop
+turning c = c .before .before .before .before .before .before .before
 
 abbrev place : tie.After-struct-known Inv-loop μ-loop → ℕ
-place c = turn c .before .loop .at
+place c = turning c .before .loop .at
 
 abbrev all : tie.After-struct-known Inv-loop μ-loop → List ℕ
-all c = turn c .before .before .before .before .before .args .capture .now
+all c = turning c .before .before .before .before .before .args .capture .now
 
 abbrev frame : tie.After-struct-known Inv-loop μ-loop → Fields
 frame c = fields (c .before .before .before .p .given .0 .0)
@@ -48,16 +48,16 @@ loop-holds : tie.Need-loop-holds Inv-loop μ-loop
 loop-holds c = passed-none (c .before .before .before .args .capture .now)
 
 add-at : tie.Need-add-at Inv-loop μ-loop
-add-at c = let i = inside c in omega (arith, i .least, i .most, turn c .before .loop .inv .within)
+add-at c = let i = inside c in omega (arith, i .least, i .most, turning c .before .loop .inv .within)
 
 loop-less : tie.Need-loop-less Inv-loop μ-loop
-loop-less c = let i = inside c in omega (arith, i .least, i .most, turn c .before .loop .inv .within)
+loop-less c = let i = inside c in omega (arith, i .least, i .most, turning c .before .loop .inv .within)
 
 loop-again : tie.Need-loop-again Inv-loop μ-loop
 loop-again c =
     let i = inside c in
-    let h : place c < length (all c) = turn c .loop-test .taken in
-    passed-more (all c) (place c) (frame c) h (found c) (omega (arith, i .most, length-drop (place c) (all c))) (i .least) (turn c .before .loop .inv)
+    let h : place c < length (all c) = turning c .loop-test .taken in
+    passed-more (all c) (place c) (frame c) h (found c) (omega (arith, i .most, length-drop (place c) (all c))) (i .least) (turning c .before .loop .inv)
 
 returns : tie.Need-returns Inv-loop μ-loop
 returns c =

@@ -16,19 +16,19 @@ use Rattle.aes.proofs.schedule.put.Statement.{statement}
 use Rattle.aes.proofs.schedule.put.Tie as tie
 
 -- the place j after n
-abbrev past : ℕ → ℕ → ℕ
-past n zero = n
-past n (suc j) = suc (past n j)
+abbrev sucs : ℕ → ℕ → ℕ
+sucs n zero = n
+sucs n (suc j) = suc (sucs n j)
 
-past-is : (n j : ℕ) → n + j ≡ past n j
-past-is n zero = add-zero n
-past-is n (suc j) = add-suc n j ∙ ap suc (past-is n j)
+sucs-is : (n j : ℕ) → n + j ≡ sucs n j
+sucs-is n zero = add-zero n
+sucs-is n (suc j) = add-suc n j ∙ ap suc (sucs-is n j)
 
 returns : tie.Need-returns
 unfolding unpacked
 returns c =
     let a = c .before .before .before .before .before .before .before .before .before .before .before .before .before .before .before .before .args in
-    let n : (j : ℕ) → a .at + j ≡ past (a .at) j = past-is (a .at) in
+    let n : (j : ℕ) → a .at + j ≡ sucs (a .at) j = sucs-is (a .at) in
     (λ i.
     set (set (set (set (set (set (set (set (set (set (set (set (set (set (set (set (a .w .now) (a .at) (c .before .before .before .before .before .before .before .before .before .before .before .before .before .before .before .low .ensures i))
     (n 1 i) ((c .before .before .before .before .before .before .before .before .before .before .before .before .before .before .low2 .ensures ∙ byte-at (a .x) 1) i))

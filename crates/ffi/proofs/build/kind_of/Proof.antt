@@ -6,7 +6,7 @@ use Rattle.laws.proofs.Answers.{then-given, then-refused, choose-true, choose-f
 use Rattle.laws.specs.Answer.{Answer.given}
 use Prim.Native.Nat.{ℕ}
 use Rattle.packet_head.specs.Block.{scsAnswer}
-use Rattle.packet_build.specs.Build.{Block.scb}
+use Rattle.packet_build.specs.Build.{FrameBlock.scb}
 use Rattle.ffi.specs.Building.{blockArg}
 use borrow.Author.Needs.{needs}
 use Rattle.ffi.proofs.build.kind_of.Statement.{statement}

@@ -6,10 +6,10 @@ use mathlib.Core.List.{List}
 use lib.ListN.{length}
 use Rattle.laws.specs.Answer.{Answer}
 use Rattle.refusal.specs.Paper.{numberOf, valuesOf}
-use Rattle.packet_build.specs.Build.{partsOf, sized, written}
+use Rattle.packet_build.specs.Build.{partsGiven, sized, written}
 use Rattle.ffi.specs.Answers.{cAnswer}
 use Rattle.ffi.specs.Building.{partsArg, askedParts}
-use Rattle.ffi.specs.declared.build.Asked.{Asked}
+use Rattle.ffi.specs.declared.build.AskedPacket.{AskedPacket}
 use Rattle.ffi.proofs.Args.{build-asked, build-not-asked, kindOfMac, mac-bytes}
 use borrow.Author.Needs.{needs}
 use Rattle.ffi.proofs.build.malstrink_build.Statement.{statement}
@@ -23,8 +23,8 @@ returns c =
     let o = a .out .now in
     let w = c .before .before .before .before .before .before .before .w .given in
     let m = c .before .before .before .before .before .mac-of in
-    let e = sym (ap (partsArg (a .p) l d) (m .ensures)) ∙ sym (c .before .before .before .before .before .before .before .before .before .ask .ensures l d (m .result)) ∙ ap (λ (x : Asked). askedParts x l d (m .result)) (w .1) in
-    let f = sym (build-asked (a .p) l d _ (length o) (partsOf (w .0 .0) l d (m .result)) e) in
+    let e = sym (ap (partsArg (a .p) l d) (m .ensures)) ∙ sym (c .before .before .before .before .before .before .before .before .before .ask .ensures l d (m .result)) ∙ ap (λ (x : AskedPacket). askedParts x l d (m .result)) (w .1) in
+    let f = sym (build-asked (a .p) l d _ (length o) (partsGiven (w .0 .0) l d (m .result)) e) in
     let g = c .before .before .before .build .ensures in
     (c .built-c .ensures ∙ ap cAnswer (g .0 ∙ ap sized f), g .1 ∙ ap (λ (x : Answer (List ℕ)). written x o) f)
 
@@ -37,7 +37,7 @@ returns-2 c =
     let w = c .before .before .e .given in
     let r = w .0 .0 in
     let m = kindOfMac (a .mac) in
-    let e = ap (partsArg (a .p) l d) (mac-bytes (a .mac)) ∙ sym (c .before .before .before .before .ask .ensures l d m) ∙ ap (λ (x : Asked). askedParts x l d m) (w .1) in
+    let e = ap (partsArg (a .p) l d) (mac-bytes (a .mac)) ∙ sym (c .before .before .before .before .ask .ensures l d m) ∙ ap (λ (x : AskedPacket). askedParts x l d m) (w .1) in
     let f = sym (build-not-asked (a .p) l d _ (length o) (numberOf r) (valuesOf r) e) in
     (c .refused .ensures ∙ ap cAnswer (ap sized f), ap (λ (x : Answer (List ℕ)). written x o) f)
 

@@ -7,10 +7,10 @@ use lib.ListN.{length}
 use Rattle.laws.specs.Answer.{Answer}
 use Rattle.refusal.specs.Paper.{numberOf, valuesOf}
 use Rattle.packet_build.specs.declared.codec.GivenMac.{GivenMac}
-use Rattle.packet_build.specs.Build.{partsOf, sized, written}
+use Rattle.packet_build.specs.Build.{partsGiven, sized, written}
 use Rattle.ffi.specs.Answers.{cAnswer}
 use Rattle.ffi.specs.Building.{askedParts}
-use Rattle.ffi.specs.declared.build.Asked.{Asked}
+use Rattle.ffi.specs.declared.build.AskedPacket.{AskedPacket}
 use Rattle.ffi.proofs.Args.{body-asked, body-not-asked}
 use borrow.Author.Needs.{needs}
 use Rattle.ffi.proofs.build.malstrink_build_body.Statement.{statement}
@@ -23,8 +23,8 @@ returns c =
     let d = a .«data» .now in
     let o = a .out .now in
     let w = c .before .before .before .before .before .before .w .given in
-    let e = sym (c .before .before .before .before .before .before .before .before .ask .ensures l d GivenMac.Absent) ∙ ap (λ (x : Asked). askedParts x l d GivenMac.Absent) (w .1) in
-    let f = sym (body-asked (a .p) l d (length o) (partsOf (w .0 .0) l d GivenMac.Absent) e) in
+    let e = sym (c .before .before .before .before .before .before .before .before .ask .ensures l d GivenMac.Absent) ∙ ap (λ (x : AskedPacket). askedParts x l d GivenMac.Absent) (w .1) in
+    let f = sym (body-asked (a .p) l d (length o) (partsGiven (w .0 .0) l d GivenMac.Absent) e) in
     let g = c .before .before .before .build-body .ensures in
     (c .built-c .ensures ∙ ap cAnswer (g .0 ∙ ap sized f), g .1 ∙ ap (λ (x : Answer (List ℕ)). written x o) f)
 
@@ -36,7 +36,7 @@ returns-2 c =
     let o = a .out .now in
     let w = c .before .before .e .given in
     let r = w .0 .0 in
-    let e = sym (c .before .before .before .before .ask .ensures l d GivenMac.Absent) ∙ ap (λ (x : Asked). askedParts x l d GivenMac.Absent) (w .1) in
+    let e = sym (c .before .before .before .before .ask .ensures l d GivenMac.Absent) ∙ ap (λ (x : AskedPacket). askedParts x l d GivenMac.Absent) (w .1) in
     let f = sym (body-not-asked (a .p) l d (length o) (numberOf r) (valuesOf r) e) in
     (c .refused .ensures ∙ ap cAnswer (ap sized f), ap (λ (x : Answer (List ℕ)). written x o) f)
 

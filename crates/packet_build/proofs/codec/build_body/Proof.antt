@@ -9,7 +9,7 @@ use lib.ListN.{length}
 use Rattle.laws.specs.Answer.{Answer, Answer.given}
 use Rattle.refusal.specs.Paper.{numberOf, valuesOf}
 use Rattle.packet_head.specs.Header.{ctrlByte}
-use Rattle.packet_build.specs.Build.{Parts, partsOf, sized, written}
+use Rattle.packet_build.specs.Build.{Parts, partsGiven, sized, written}
 use Rattle.packet_build.specs.Tested.{partsTest, tested}
 use Rattle.packet_build.specs.declared.codec.GivenMac.{GivenMac}
 use Rattle.packet_build.proofs.Tests.{with-given, with-refused}
@@ -20,7 +20,7 @@ use Rattle.packet_build.proofs.codec.build_body.Tie as tie
 
 -- the parts that the arguments make, and the paper's tests of them
 abbrev parts : tie.Start → Parts
-parts c = partsOf (c .args .w) (c .args .block .now) (c .args .«data» .now) GivenMac.Absent
+parts c = partsGiven (c .args .w) (c .args .block .now) (c .args .«data» .now) GivenMac.Absent
 
 abbrev tests : tie.Start → Answer ℕ
 tests c = let p = parts c in partsTest (p .ctrl) (p .block) 4 (length (p .«data»)) (length (c .args .out .now))

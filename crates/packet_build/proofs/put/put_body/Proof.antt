@@ -7,7 +7,7 @@ use borrow.Author.Needs.{needs}
 use native.Mathlib.Omega.{arith}
 use Rattle.laws.specs.Over.{write}
 use Rattle.laws.proofs.Overwrite.{four}
-use Rattle.packet_build.specs.Build.{blockBytes, blockOf, bodyBytes}
+use Rattle.packet_build.specs.Build.{blockBytes, scbGiven, bodyBytes}
 use Rattle.packet_build.proofs.put.put_body.Statement.{statement}
 use Rattle.packet_build.proofs.put.put_body.Tie as tie
 
@@ -17,7 +17,7 @@ returns c =
     let s = c .before .before .before .before .before .before .before .before .before .before .before .before .before .before .before .before .before .before .before .before .before .before in
     let a = s .args in
     let o = a .out .now in
-    let b = blockBytes (blockOf (a .w .block) (a .bytes .now)) in
+    let b = blockBytes (scbGiven (a .w .block) (a .bytes .now)) in
     let k = c .before .before .before .before .before .before .before .before .before .before .before .put-block in
     let h = c .before .before .before .before .before .before .before .before .before .before .before .before .before .before .before .copy-in .ensures .1
     ∙ ap₂ (λ (x y : ℕ). write o 0 (0x53 ∷ x ∷ a .total % 256 ∷ a .total / 256 ∷ y ∷ [])) (c .before .before .before .before .before .before .before .before .before .before .before .before .before .before .before .before .before .before .as-byte .ensures) (s .pre .0) in (

@@ -10,7 +10,7 @@ use Rattle.laws.specs.Answer.{Answer.given, Answer.refused}
 use Rattle.packet_head.specs.Header.{control, encodeOf, encodedAnswer}
 use Rattle.packet_head.specs.Trailer.{macLen}
 use Rattle.packet_build.specs.Build.{differ, totalN}
-use Rattle.packet_build.proofs.Tests.{encode-refused, refused-3, refused-11, refused-17, refused-12, refused-18, passed}
+use Rattle.packet_build.proofs.Tests.{encode-refused, refused-3, refused-11, refused-17, refused-12, refused-18, all-passed}
 use Rattle.packet_build.proofs.test.test.Statement.{statement}
 use Rattle.packet_build.proofs.test.test.Tie as tie
 
@@ -60,7 +60,7 @@ returns-7 : tie.Need-returns-7
 returns-7 c =
     let t = summed (c .before .before) in
     ap (λ (n : ℕ). given (n, c .before .before .before .before .before .before .before .before .before .before .b .given .0 .0)) t
-    ∙ passed _ _ _ _ _ _ _ _ (coded (c .before .before .before .before .before .before .before .before .before .before)) (agree (c .before .before .before .before .before .before .before)) (right-mac (c .before .before .before .before .before)) (omega arith) (omega arith) (omega arith)
+    ∙ all-passed _ _ _ _ _ _ _ _ (coded (c .before .before .before .before .before .before .before .before .before .before)) (agree (c .before .before .before .before .before .before .before)) (right-mac (c .before .before .before .before .before)) (omega arith) (omega arith) (omega arith)
 
 pub test-spec : {M : Type 1} → statement M
 test-spec =

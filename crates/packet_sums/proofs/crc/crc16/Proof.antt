@@ -10,7 +10,7 @@ use lib.ListN.{length, take, drop, drop-of-length-le}
 use lib.Seq.{drop-drop}
 use Rattle.laws.proofs.ByteLists.{bytes-take, bytes-drop}
 use Rattle.laws.proofs.Lists.{part-length}
-use Rattle.packet_sums.specs.Crc.{start, crcFrom, crcOf}
+use Rattle.packet_sums.specs.Crc.{crcStart, crcFrom, crcOf}
 use Rattle.packet_sums.specs.Word.{crcWord}
 use Rattle.packet_sums.proofs.CrcLaws.{crc-nil, crc-cut}
 use Rattle.packet_sums.proofs.Step.{word-step}
@@ -27,7 +27,7 @@ abbrev μ-loop : tie.MeasureT-loop
 loop-holds : tie.Need-loop-holds Inv-loop μ-loop
 loop-holds c =
     let s = c .before .before .args .bytes .now in
-    (omega arith, omega arith, omega arith, ap (λ (v : ℕ). crcFrom v (drop (length s % 8) s)) (c .crc-head .ensures) ∙ crc-cut s start (length s % 8))
+    (omega arith, omega arith, omega arith, ap (λ (v : ℕ). crcFrom v (drop (length s % 8) s)) (c .crc-head .ensures) ∙ crc-cut s crcStart (length s % 8))
 
 loop-again : tie.Need-loop-again Inv-loop μ-loop
 loop-again c =

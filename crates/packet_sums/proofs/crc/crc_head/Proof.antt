@@ -9,7 +9,7 @@ use lib.ListN.{length, take, getD}
 use lib.Seq.{length-take-le}
 use Rattle.laws.specs.Bytes.{Bytes}
 use Rattle.laws.proofs.ByteLists.{bytes-take}
-use Rattle.packet_sums.specs.Crc.{start, crcByte, crcOf}
+use Rattle.packet_sums.specs.Crc.{crcStart, crcByte, crcOf}
 use Rattle.packet_sums.specs.Word.{wordFrom, crcWord}
 use Rattle.packet_sums.proofs.CrcLaws.{crc-nil, crc-take}
 use Rattle.packet_sums.proofs.Step.{word-start}
@@ -27,7 +27,7 @@ returns : tie.Need-returns
 returns c =
     let s = c .before .before .args .bytes .now in
     let e : 0 ≡ length s % 8 = omega arith in
-    sym (crc-nil start) ∙ ap (λ (k : ℕ). crcOf (take k s)) e
+    sym (crc-nil crcStart) ∙ ap (λ (k : ℕ). crcOf (take k s)) e
 
 returns-2 : tie.Need-returns-2
 returns-2 c =
@@ -50,7 +50,7 @@ returns-3 c =
     c .crc-byte .ensures
     ∙ ap₂ (λ (v i : ℕ). crcByte v (getD s i 0))
     (even s (b .head-word .result) (d .crc-word .result) known (b .head-word .ensures) (d .crc-word .ensures)) f
-    ∙ sym (ap (λ (n : ℕ). crcOf (take n s)) e ∙ crc-take s start k (omega arith))
+    ∙ sym (ap (λ (n : ℕ). crcOf (take n s)) e ∙ crc-take s crcStart k (omega arith))
 
 pub crc-head-spec : {M : Type 1} → statement M
 crc-head-spec =

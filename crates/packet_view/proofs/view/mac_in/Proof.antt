@@ -2,8 +2,8 @@
 use contract.Running.{givenOf, tables, tablesOf}
 use denote.Triple.Spec.{tripleOf}
 use denote.Triple.Table.{entered, cited}
-use Rattle.packet_view.specs.View.{macOf}
-use Rattle.packet_view.proofs.Thin.{macAt, macLen}
+use Rattle.packet_view.specs.View.{frameMacOf}
+use Rattle.packet_view.proofs.Thin.{mac-at, mac-len}
 use Rattle.packet_view.proofs.Door.{New, Next, door-meets}
 use Rattle.packet_view.proofs.ShownLaws.{mac-shown}
 use Rattle.packet_view.proofs.view.PacketView.parse.Symbol as parse-def
@@ -22,6 +22,6 @@ unfolding code.routine tablesOf
 mac-in-spec 𝓤 H 𝓜 𝓖 𝓡 =
     entered 𝓤 H (tripleOf 𝓤 H (𝓖 .A) self.signature (self.spec 𝓤 H (𝓖 .A) (𝓜 .mem) (𝓡 .run)))
     (tables 𝓤 H 𝓜 𝓡 code.env .C) (tables 𝓤 H 𝓜 𝓡 code.env .Λ) #self code.function (code.unfolded 𝓤 H 𝓜 𝓡)
-    (door-meets macOf macAt macLen #method mac-shown 𝓤 H (𝓖 .A) (givenOf 𝓤 H 𝓜 𝓖) (𝓜 .mem) (𝓡 .run) (tablesOf 𝓤 H 𝓜 (tables 𝓤 H 𝓜 𝓡 code.env))
+    (door-meets frameMacOf mac-at mac-len #method mac-shown 𝓤 H (𝓖 .A) (givenOf 𝓤 H 𝓜 𝓖) (𝓜 .mem) (𝓡 .run) (tablesOf 𝓤 H 𝓜 (tables 𝓤 H 𝓜 𝓡 code.env))
     (cited 𝓤 H (New 𝓤 H (𝓖 .A) (𝓜 .mem) (𝓡 .run)) 𝓜 𝓡 code.env #parse parse-def.routine code.calls-packet-view·view·PacketView·parse (parse-thm.met 𝓤 H 𝓜 𝓖 𝓡))
-    (cited 𝓤 H (Next macAt macLen 𝓤 H (𝓖 .A)) 𝓜 𝓡 code.env #method method-def.routine code.calls-packet-view·view·PacketView·mac (method-thm.met 𝓤 H 𝓜 𝓖 𝓡)))
+    (cited 𝓤 H (Next mac-at mac-len 𝓤 H (𝓖 .A)) 𝓜 𝓡 code.env #method method-def.routine code.calls-packet-view·view·PacketView·mac (method-thm.met 𝓤 H 𝓜 𝓖 𝓡)))

@@ -6,7 +6,7 @@ use native.Mathlib.Omega.{arith}
 use lib.ListN.{getD, take, drop}
 use lib.Seq.{getD-take, getD-drop}
 use Rattle.laws.proofs.Fill.{Filled, fill-none, fill-more, fill-all}
-use Rattle.laws.proofs.Listed.{whole}
+use Rattle.laws.proofs.Listed.{block-listed}
 use Rattle.laws.proofs.Lists.{part-length}
 use Rattle.secure_cipher.proofs.block.block_at.Statement.{statement}
 use Rattle.secure_cipher.proofs.block.block_at.Tie as tie
@@ -28,7 +28,7 @@ returns : tie.Need-returns Inv-loop μ-loop
 returns c =
     let a = c .before .before .args in
     let s = a .s .now in
-    fill-all (c .loop-test .left) (c .before .loop .inv .1) ∙ whole (take 16 (drop (a .at) s)) (part-length s (a .at) 16 (omega arith))
+    fill-all (c .loop-test .left) (c .before .loop .inv .1) ∙ block-listed (take 16 (drop (a .at) s)) (part-length s (a .at) 16 (omega arith))
 
 pub block-at-spec : {M : Type 1} → statement M
 block-at-spec =

@@ -8,7 +8,7 @@ use lib.ListN.{length, getD}
 use Rattle.laws.specs.Bytes.{xorl}
 use Rattle.laws.proofs.ByteLists.{length-xorl, getD-xorl}
 use Rattle.laws.proofs.Fill.{Filled, fill-none, fill-more, fill-all}
-use Rattle.laws.proofs.Listed.{whole}
+use Rattle.laws.proofs.Listed.{block-listed}
 use Rattle.secure_cipher.proofs.block.xor.Statement.{statement}
 use Rattle.secure_cipher.proofs.block.xor.Tie as tie
 
@@ -29,7 +29,7 @@ returns : tie.Need-returns Inv-loop μ-loop
 returns c =
     let g = c .before .before .args in
     let m : length (g .t1) ≡ 16 = search needs in
-    fill-all (c .loop-test .left) (c .before .loop .inv .1) ∙ whole (xorl (g .t1) (g .t2)) (length-xorl (g .t1) (g .t2) ∙ m)
+    fill-all (c .loop-test .left) (c .before .loop .inv .1) ∙ block-listed (xorl (g .t1) (g .t2)) (length-xorl (g .t1) (g .t2) ∙ m)
 
 pub xor-spec : {M : Type 1} → statement M
 xor-spec =

@@ -8,7 +8,7 @@ use lib.ListN.{length, getD}
 use Rattle.laws.specs.Bytes.{compl}
 use Rattle.laws.proofs.ByteLists.{length-compl, getD-compl}
 use Rattle.laws.proofs.Fill.{Filled, fill-none, fill-more, fill-all}
-use Rattle.laws.proofs.Listed.{whole}
+use Rattle.laws.proofs.Listed.{block-listed}
 use Rattle.secure_cipher.proofs.cipher.complement_icv.Statement.{statement}
 use Rattle.secure_cipher.proofs.cipher.complement_icv.Tie as tie
 
@@ -28,7 +28,7 @@ returns : tie.Need-returns Inv-loop μ-loop
 returns c =
     let a = c .before .before .args .t1 in
     let m : length a ≡ 16 = search needs in
-    fill-all (c .loop-test .left) (c .before .loop .inv .1) ∙ whole (compl a) (length-compl a ∙ m)
+    fill-all (c .loop-test .left) (c .before .loop .inv .1) ∙ block-listed (compl a) (length-compl a ∙ m)
 
 pub complement-icv-spec : {M : Type 1} → statement M
 complement-icv-spec =

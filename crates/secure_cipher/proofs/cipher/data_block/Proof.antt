@@ -15,7 +15,7 @@ returns c =
 returns-2 : tie.Need-returns-2
 returns-2 c =
     let a = c .before .before .before .args in
-    c .last-block .ensures ∙ padData-last (a .s .now) (a .at) (omega arith)
+    c .last-data-block .ensures ∙ padData-last (a .s .now) (a .at) (omega arith)
 
 pub data-block-spec : {M : Type 1} → statement M
 data-block-spec = tie.close (tie.spec (λ c. omega arith) (λ c κs. omega arith) (λ c κs. search needs) returns returns-2)

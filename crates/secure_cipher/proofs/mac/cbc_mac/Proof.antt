@@ -25,8 +25,8 @@ returns-2 c =
     let a = t .before .before .before .args in
     let l = a .input .now in
     let w : s .expand .result ≡ keyExpansion SBOX (a .s-mac2) = cc in
-    mac-last (a .s-mac1) (a .s-mac2) (a .icv) l (s .before .before .chain .result) (c .before .before .last-block .result) (c .encrypt-with .result)
-    ((length l - 1) / 16) (omega (arith, t .before .if1 .left)) refl (s .before .before .chain .ensures) (c .before .before .last-block .ensures)
+    mac-last (a .s-mac1) (a .s-mac2) (a .icv) l (s .before .before .chain .result) (c .before .before .last-mac-block .result) (c .encrypt-with .result)
+    ((length l - 1) / 16) (omega (arith, t .before .if1 .left)) refl (s .before .before .chain .ensures) (c .before .before .last-mac-block .ensures)
     (enciphered _ _ (a .s-mac2) _ _ (t .forward-table .ensures) w (c .encrypt-with .ensures) ∙ ap (E (a .s-mac2)) (c .before .xor .ensures))
     _ (omega arith)
 

@@ -13,7 +13,7 @@ use Rattle.secure_session.specs.Handshake.{stepped, challengeOf}
 use Rattle.secure_session.specs.declared.session.Stepped.{Stepped}
 use Rattle.secure_session.specs.declared.session.Session.{Session}
 use Rattle.secure_lent.proofs.Results.{with-outcome}
-use Rattle.secure_lent.proofs.Datum.{bytes}
+use Rattle.secure_lent.proofs.Datum.{byteArray}
 use Rattle.secure_lent.proofs.Passed.{Passed, copied, datum}
 use Rattle.secure_lent.proofs.Wrapper.{Callee, meets}
 use Rattle.secure_session.proofs.session.Session.challenge.Symbol as fun-def
@@ -26,7 +26,7 @@ use Rattle.secure_lent.proofs.lent.challenge.Code as code
 
 -- what it takes beside the session
 abbrev others : List (Passed 0)
-others = copied (datum (bytes 8)) ∷ []
+others = copied (datum (byteArray 8)) ∷ []
 
 -- what both say
 abbrev Says : {M : Type 1} (𝓤 : URA M) → Session → List ℕ → Stepped → SProp 𝓤

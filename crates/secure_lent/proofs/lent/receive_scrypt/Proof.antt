@@ -13,7 +13,7 @@ use Rattle.secure_session.specs.Handshake.{steppedBlock, blockBeside, receiveSc
 use Rattle.secure_session.specs.declared.session.SteppedBlock.{SteppedBlock}
 use Rattle.secure_session.specs.declared.session.Session.{Session}
 use Rattle.secure_lent.proofs.Results.{with-block}
-use Rattle.secure_lent.proofs.Datum.{bytes}
+use Rattle.secure_lent.proofs.Datum.{byteArray}
 use Rattle.secure_lent.proofs.Passed.{Passed, copied, datum}
 use Rattle.secure_lent.proofs.Wrapper.{Callee, meets}
 use Rattle.secure_session.proofs.session.Session.receive_scrypt.Symbol as fun-def
@@ -26,7 +26,7 @@ use Rattle.secure_lent.proofs.lent.receive_scrypt.Code as code
 
 -- what it takes beside the session
 abbrev others : List (Passed 0)
-others = copied (datum (bytes 16)) ∷ []
+others = copied (datum (byteArray 16)) ∷ []
 
 -- what both say
 abbrev Says : {M : Type 1} (𝓤 : URA M) → Session → List ℕ → SteppedBlock → SProp 𝓤

@@ -7,7 +7,7 @@ use lib.ListN.{length, take, drop}
 use lib.Seq.{length-take-le}
 use Rattle.laws.proofs.Lists.{part-length}
 use borrow.Rule.Slice.PartMut.{putMid}
-use Rattle.secure_seal.specs.Seal.{dataLen, askedOf}
+use Rattle.secure_seal.specs.Seal.{dataLenFor, askedOf}
 use Rattle.secure_seal.proofs.FrameWritten.{frame-put, data-steps, mac-few}
 use Rattle.secure_seal.proofs.SealLaws.{length-dataLen}
 use Rattle.secure_cipher.specs.Mac.{Mac}
@@ -50,7 +50,7 @@ returns c =
     let y = p .put-data .last .1 .1 .1 .1 .0 in
     let l₁ : length o₁ ≡ length (a .out .now) = p .before .before .before .before .out .given in
     let g : length y ≡ length (take (t - 6 - 8) (drop 8 o₁)) = m .before .before .before .before .before .out2 .given .0 in
-    let ly : length y ≡ dataLen (a .encrypt) (a .«data» .now) = g ∙ part-length o₁ 8 (t - 6 - 8) (omega (arith, l .total-len .ensures, s .pre)) ∙ omega (arith, l .total-len .ensures) in
+    let ly : length y ≡ dataLenFor (a .encrypt) (a .«data» .now) = g ∙ part-length o₁ 8 (t - 6 - 8) (omega (arith, l .total-len .ensures, s .pre)) ∙ omega (arith, l .total-len .ensures) in
     frame-put (a .keys) (a .start) q (a .out .now) o₁ y _ t (l .total-len .ensures) room (p .put-data .ensures .0) ly (h .put-head .ensures) (h .before .before .scs-for .ensures)
     (m .cbc-mac .result .full) _ (m .cbc-mac .result .calls) (p .put-data .result) lf (p .put-data .ensures .1) (m .cbc-mac .ensures) (c .before .before .before .put-end .ensures)
 

@@ -4,7 +4,7 @@ use mathlib.Core.Path.{_∙_}
 use mathlib.Core.Bool.{true}
 use mathlib.Core.List.{[]}
 use Rattle.packet_head.specs.Block.{typeOf}
-use Rattle.packet_build.specs.Build.{Block.scb, bodyBytes}
+use Rattle.packet_build.specs.Build.{FrameBlock.scb, bodyBytes}
 use Rattle.packet_build.proofs.Sizes.{body-length}
 use Rattle.secure_seal.proofs.Places.{front-write}
 use Rattle.secure_seal.proofs.FrameWritten.{head-bytes}

@@ -5,7 +5,7 @@ use Prim.Native.Nat.{ℕ}
 use lib.ListN.{length}
 use Rattle.secure_cipher.specs.Pad.{lengthAnswer}
 use Rattle.secure_seal.specs.Seal.{Asked, askedOf, totalOf, frameTest}
-use Rattle.secure_seal.proofs.SealCases.{passed, told-not-secure, told-refused, told-done}
+use Rattle.secure_seal.proofs.SealCases.{tests-passed, told-not-secure, told-refused, told-done}
 use borrow.Author.Needs.{needs}
 use Rattle.secure_seal.proofs.frame.seal.Statement.{statement}
 use Rattle.secure_seal.proofs.frame.seal.Tie as tie
@@ -30,7 +30,7 @@ put-frame-requires : tie.Need-put-frame-requires
 put-frame-requires c κs =
     let k = c .before .before .before .before in
     let s = k .before .before .before .before .before .before .before .before in
-    let p = passed (asked s) (length (s .args .out .now)) (k .total .given .0 .0) (ap lengthAnswer (k .total .given .1)) (answered (k .before .before)) in
+    let p = tests-passed (asked s) (length (s .args .out .now)) (k .total .given .0 .0) (ap lengthAnswer (k .total .given .1)) (answered (k .before .before)) in
     (p .sqn, p .most, p .room)
 
 returns-2 : tie.Need-returns-2

@@ -3,16 +3,16 @@
 use native.Mathlib.Omega.{arith}
 use borrow.Author.Needs.{needs}
 use Rattle.secure_cipher.proofs.PadLaws.{length-padData}
-use Rattle.secure_seal.specs.Seal.{dataLen}
+use Rattle.secure_seal.specs.Seal.{dataLenFor}
 use Rattle.secure_seal.proofs.frame.total_len.Statement.{statement}
 use Rattle.secure_seal.proofs.frame.total_len.Tie as tie
 
 returns : tie.Need-returns
-unfolding dataLen
+unfolding dataLenFor
 returns c = rw (c .if1 .taken) (omega (arith, length-padData (c .before .args .«data» .now)))
 
 returns-2 : tie.Need-returns-2
-unfolding dataLen
+unfolding dataLenFor
 returns-2 c = rw (c .if1 .left) (omega arith)
 
 pub total-len-spec : {M : Type 1} → statement M

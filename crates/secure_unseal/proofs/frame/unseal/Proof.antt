@@ -16,7 +16,7 @@ returns c =
     let v = u .before .before in
     let i = v .before .before in
     let a = i .before .before .before .before .args in
-    c .settled .ensures _
+    c .unsealed-on .ensures _
     ∙ on-secure (a .session) (a .frame .now) (a .work .now) (sym (i .before .is-secure .ensures) ∙ i .if1 .taken)
     (u .unseal-frame .ensures ∙ ap (λ (x : List ℕ). unsealParsed (a .session .keys) x (a .frame .now) (parseOf (a .frame .now)) (a .work .now)) (v .recv-from .ensures))
 

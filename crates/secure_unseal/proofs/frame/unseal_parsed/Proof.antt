@@ -15,14 +15,14 @@ use Rattle.secure_unseal.proofs.frame.unseal_parsed.Statement.{statemen
 use Rattle.secure_unseal.proofs.frame.unseal_parsed.Tie as tie
 
 -- what the code's test said of the type it took out of the block
-told : (test : ℕ → Bool) {b q : BlockPart} {x y : Bool} → b ≡ q → x ≡ test (typeIn (blockPlace q)) → x ≡ y → test (typeIn (blockPlace b)) ≡ y
-told test e r t = ap (λ (p : BlockPart). test (typeIn (blockPlace p))) e ∙ sym r ∙ t
+type-tested : (test : ℕ → Bool) {b q : BlockPart} {x y : Bool} → b ≡ q → x ≡ test (typeIn (blockPlace q)) → x ≡ y → test (typeIn (blockPlace b)) ≡ y
+type-tested test e r t = ap (λ (p : BlockPart). test (typeIn (blockPlace p))) e ∙ sym r ∙ t
 
 -- where the code asks for the MAC's place, the type has a MAC
-due : (m : tie.After-mac-start) → hasMac (typeIn (fields (m .before .before .before .before .before .before .before .before .args .p) .block)) ≡ true
-due m =
+mac-due : (m : tie.After-mac-start) → hasMac (typeIn (fields (m .before .before .before .before .before .before .before .before .args .p) .block)) ≡ true
+mac-due m =
     let h = m .before .before in
-    told hasMac (h .before .before .block .given .1) (h .has-mac .ensures) (m .before .if1 .taken)
+    type-tested hasMac (h .before .before .block .given .1) (h .has-mac .ensures) (m .before .if1 .taken)
 
 unseal-hidden-requires : tie.Need-unseal-hidden-requires
 unseal-hidden-requires c κs =
@@ -30,7 +30,7 @@ unseal-hidden-requires c κs =
     let s = m .before .before .before .before .before .before .before .before in
     let a = s .args in
     let f = fields (a .p) in
-    (omega (arith, m .mac-start .ensures, mac-inside (a .frame .now) f (s .pre) (due m)), data-inside (a .frame .now) f (s .pre))
+    (omega (arith, m .mac-start .ensures, mac-inside (a .frame .now) f (s .pre) (mac-due m)), data-inside (a .frame .now) f (s .pre))
 
 check-requires : tie.Need-check-requires
 check-requires c κs =
@@ -38,7 +38,7 @@ check-requires c κs =
     let s = m .before .before .before .before .before .before .before .before in
     let a = s .args in
     let f = fields (a .p) in
-    omega (arith, m .mac-start .ensures, mac-inside (a .frame .now) f (s .pre) (due m))
+    omega (arith, m .mac-start .ensures, mac-inside (a .frame .now) f (s .pre) (mac-due m))
 
 returns : tie.Need-returns
 returns c =
@@ -54,10 +54,10 @@ returns-2 c =
     let g = m .before .before .before .before in
     let a = g .before .before .before .before .args in
     let f = fields (a .p) in
-    let y : isEncrypted (typeIn (f .block)) ≡ true = told isEncrypted (g .block .given .1) (e .is-encrypted .ensures) (u .before .before .if2 .taken) in
+    let y : isEncrypted (typeIn (f .block)) ≡ true = type-tested isEncrypted (g .block .given .1) (e .is-encrypted .ensures) (u .before .before .if2 .taken) in
     u .unseal-hidden .ensures
     ∙ ap (λ (n : ℕ). unsealHidden (check (a .keys) (a .start) (a .frame .now) n) (openData (a .keys) (a .start) (a .frame .now) f) f (a .work .now)) (m .mac-start .ensures)
-    ∙ parsed-hidden (a .keys) (a .start) (a .frame .now) f (a .work .now) (due m) y
+    ∙ parsed-hidden (a .keys) (a .start) (a .frame .now) f (a .work .now) (mac-due m) y
 
 returns-3 : tie.Need-returns-3
 returns-3 c =
@@ -66,10 +66,10 @@ returns-3 c =
     let g = m .before .before .before .before in
     let a = g .before .before .before .before .args in
     let f = fields (a .p) in
-    let y : isEncrypted (typeIn (f .block)) ≡ false = told isEncrypted (g .block .given .1) (e .is-encrypted .ensures) (c .before .before .if2 .left) in
+    let y : isEncrypted (typeIn (f .block)) ≡ false = type-tested isEncrypted (g .block .given .1) (e .is-encrypted .ensures) (c .before .before .if2 .left) in
     c .unseal-plain .ensures (a .work .now)
     ∙ ap (λ (x : Checked). unsealPlain x f (a .work .now)) (c .before .check .ensures ∙ ap (check (a .keys) (a .start) (a .frame .now)) (m .mac-start .ensures))
-    ∙ parsed-plain (a .keys) (a .start) (a .frame .now) f (a .work .now) (due m) y
+    ∙ parsed-plain (a .keys) (a .start) (a .frame .now) f (a .work .now) (mac-due m) y
 
 returns-4 : tie.Need-returns-4
 returns-4 c =
@@ -77,7 +77,7 @@ returns-4 c =
     let g = h .before .before in
     let a = g .before .before .before .before .args in
     stops (c .stopped2 .ensures)
-    (parsed-no (a .keys) (a .start) (a .frame .now) (fields (a .p)) (a .work .now) (told hasMac (g .block .given .1) (h .has-mac .ensures) (c .before .if1 .left)))
+    (parsed-no (a .keys) (a .start) (a .frame .now) (fields (a .p)) (a .work .now) (type-tested hasMac (g .block .given .1) (h .has-mac .ensures) (c .before .if1 .left)))
 
 pub unseal-parsed-spec : {M : Type 1} → statement M
 unseal-parsed-spec =

@@ -13,13 +13,13 @@ use Rattle.packet_head.proofs.scb.ScsType.from_byte.Statement.{statemen
 use Rattle.packet_head.proofs.scb.ScsType.from_byte.Tie as tie
 
 -- omega splits at most six times, so four at a time
-past : (k b : ℕ) → (b ≡ k → ⊥) → (b ≡ k + 1 → ⊥) → (b ≡ k + 2 → ⊥) → (b ≡ k + 3 → ⊥) → k ≤ b → k + 4 ≤ b
-past k b h₀ h₁ h₂ h₃ l = omega arith
+past-four : (k b : ℕ) → (b ≡ k → ⊥) → (b ≡ k + 1 → ⊥) → (b ≡ k + 2 → ⊥) → (b ≡ k + 3 → ⊥) → k ≤ b → k + 4 ≤ b
+past-four k b h₀ h₁ h₂ h₃ l = omega arith
 
 -- a byte that is none of the eight
-out : (b : ℕ) → (17 ≤ b → 24 < b) → scsOf b ≡ refused 6 (b ∷ [])
+outside : (b : ℕ) → (17 ≤ b → 24 < b) → scsOf b ≡ refused 6 (b ∷ [])
 unfolding scsOf refuseIf
-out b h = go (leb 17 b) refl
+outside b h = go (leb 17 b) refl
   where
     go : (t : Bool) → leb 17 b ≡ t → scsOf b ≡ refused 6 (b ∷ [])
     go true e = rw (e, lt-leb b 24 (h (leb-true 17 b e)))
@@ -29,7 +29,7 @@ returns-other : tie.Need-returns-9
 returns-other c =
     let b = c .before .args .b in
     let n = c .match .rest in
-    sym (out b (λ l. past 21 b (n .0 .0 .0 .1) (n .0 .0 .1) (n .0 .1) (n .1) (past 17 b (n .0 .0 .0 .0 .0 .0 .0 .1) (n .0 .0 .0 .0 .0 .0 .1) (n .0 .0 .0 .0 .0 .1) (n .0 .0 .0 .0 .1) l)))
+    sym (outside b (λ l. past-four 21 b (n .0 .0 .0 .1) (n .0 .0 .1) (n .0 .1) (n .1) (past-four 17 b (n .0 .0 .0 .0 .0 .0 .0 .1) (n .0 .0 .0 .0 .0 .0 .1) (n .0 .0 .0 .0 .0 .1) (n .0 .0 .0 .0 .1) l)))
 
 pub from-byte-spec : {M : Type 1} → statement M
 unfolding scsOf refuseIf

@@ -3,7 +3,7 @@
 use contract.Running.{givenOf, tables, tablesOf}
 use denote.Triple.Spec.{tripleOf}
 use denote.Triple.Table.{entered, cited}
-use Rattle.packet_view.proofs.Thin.{macAt, macLen, Part, thin-meets}
+use Rattle.packet_view.proofs.Thin.{mac-at, mac-len, PartContract, thin-meets}
 use Rattle.packet_view.proofs.parts.part.Symbol as part-def
 use Rattle.packet_view.proofs.parts.part.Symbol.{name as #part}
 use Rattle.packet_view.proofs.parts.part.Met as part-thm
@@ -17,5 +17,5 @@ unfolding code.routine tablesOf
 mac-spec 𝓤 H 𝓜 𝓖 𝓡 =
     entered 𝓤 H (tripleOf 𝓤 H (𝓖 .A) method.signature (method.spec 𝓤 H (𝓖 .A) (𝓜 .mem) (𝓡 .run)))
     (tables 𝓤 H 𝓜 𝓡 code.env .C) (tables 𝓤 H 𝓜 𝓡 code.env .Λ) #mac code.function (code.unfolded 𝓤 H 𝓜 𝓡)
-    (thin-meets macAt macLen 𝓤 H (𝓖 .A) (givenOf 𝓤 H 𝓜 𝓖) (𝓜 .mem) (𝓡 .run) (tablesOf 𝓤 H 𝓜 (tables 𝓤 H 𝓜 𝓡 code.env))
-    (cited 𝓤 H (Part 𝓤 H (𝓖 .A) (𝓜 .mem) (𝓡 .run)) 𝓜 𝓡 code.env #part part-def.routine code.calls-packet-view·parts·part (part-thm.met 𝓤 H 𝓜 𝓖 𝓡)))
+    (thin-meets mac-at mac-len 𝓤 H (𝓖 .A) (givenOf 𝓤 H 𝓜 𝓖) (𝓜 .mem) (𝓡 .run) (tablesOf 𝓤 H 𝓜 (tables 𝓤 H 𝓜 𝓡 code.env))
+    (cited 𝓤 H (PartContract 𝓤 H (𝓖 .A) (𝓜 .mem) (𝓡 .run)) 𝓜 𝓡 code.env #part part-def.routine code.calls-packet-view·parts·part (part-thm.met 𝓤 H 𝓜 𝓖 𝓡)))

@@ -43,7 +43,7 @@ use denote.Triple.Walked.{says, Stays, stay-none-slice, walkOf, goes-none-slice,
 use denote.Exit.{yes}
 use denote.Triple.Clauses.{ensured, lasts}
 use Rattle.packet_parse.specs.Frame.{parseOf}
-use Rattle.packet_view.specs.View.{Shown, shown, placesOf}
+use Rattle.packet_view.specs.View.{Shown, placesTold, placesOf}
 use Rattle.packet_view.specs.declared.parts.Places.{Places}
 use Rattle.packet_view.proofs.Settled.{viewWith}
 use Rattle.packet_view.proofs.Copied.{copied}
@@ -68,8 +68,8 @@ abbrev Found : {M : Type 1} (𝓤 : URA M) (H : Heap 𝓤) (A : Atoms 𝓤) (mem
 Found 𝓤 H A mem run = tripleOf 𝓤 H A places.signature (places.spec 𝓤 H A mem run)
 
 -- the places' fields
-abbrev fields : Places → Values (P.the-type .parts)
-fields p = (p .outcome, (p .addr, (p .ctrl, (p .block, (p .code, (p .trailer, (p .len, (p .«block_at», (p .«block_len», (p .«data_at», (p .«data_len», (p .«mac_at», (p .«mac_len», tt)))))))))))))
+abbrev placeFields : Places → Values (P.the-type .parts)
+placeFields p = (p .verdict, (p .addr, (p .ctrl, (p .block, (p .code, (p .trailer, (p .len, (p .«block_at», (p .«block_len», (p .«data_at», (p .«data_len», (p .«mac_at», (p .«mac_len», tt)))))))))))))
 
 module _ {M : Type 1} (𝓤 : URA M) (H : Heap 𝓤) (A : Atoms 𝓤) (W : Given 𝓤 H A) (mem : Memory → SProp 𝓤) (run : Routine → Fun 𝓤) (κ : Lft) (q : Share) (s : RefT (List ℕ)) where
   -- the machine value that s has
@@ -92,28 +92,28 @@ module _ {M : Type 1} (𝓤 : URA M) (H : Heap 𝓤) (A : Atoms 𝓤) (W : Given
       move ! (1 ∷ []) $ fsplit ! $ use1 W (‵ Own ⊛ ‵ Own) (shr-slice-copy 𝓤 H A W (named 0) κ u8 .twice s (v ∷ [])) $ split ! $ use1 W (‵ Own ⊛ ‵ Own) (shr-slice-copy 𝓤 H A W (named 0) κ u8 .twice s (v ∷ [])) $ split ! $
       move ! (0 ∷ 3 ∷ []) $ fjoin ! $ move ! (3 ∷ 0 ∷ []) $ use2 W (raw (Found 𝓤 H A mem run .pre to)) (qed W ((‵ (flft κ q) ⊛ ‵ ftrue) ∷ ‵ (owns (ShrSlice (named 0) κ u8 ∷ []) (s, tt) (v ∷ [], tt)) ∷ []) ∵ join ! $ frame ! $ done !) $ frame ! $ done !
 
-  said : (p : Places) → ent 𝓤 (ensured 𝓤 H A places.ended (places.clauses 𝓤 H A mem run) (κ, tt) (s, tt) tt p) (fact 𝓤 (shown p ≡ placesOf (parseOf (now s))))
-  said p = exE 𝓤 _ (λ ws. snd∗ 𝓤 (sem 𝓤 H A (lasts places.ended (κ, tt) (s, tt) ws)) (fact 𝓤 (shown p ≡ placesOf (parseOf (now s)))))
+  said : (p : Places) → ent 𝓤 (ensured 𝓤 H A places.ended (places.clauses 𝓤 H A mem run) (κ, tt) (s, tt) tt p) (fact 𝓤 (placesTold p ≡ placesOf (parseOf (now s))))
+  said p = exE 𝓤 _ (λ ws. snd∗ 𝓤 (sem 𝓤 H A (lasts places.ended (κ, tt) (s, tt) ws)) (fact 𝓤 (placesTold p ≡ placesOf (parseOf (now s)))))
 
   abbrev α : NamedLft
   α = namedLft 1 0 tt (κ, tt)
 
   abbrev mach : Places → Val
-  mach p = vstruct (spelled (T.the-type α .parts) (T′.the-laws α) (s, fields p))
+  mach p = vstruct (spelled (T.the-type α .parts) (T′.the-laws α) (s, placeFields p))
 
   abbrev Fields : Places → Fml
-  Fields p = all-own (P.the-type .parts) P′.the-laws (fields p)
+  Fields p = all-own (P.the-type .parts) P′.the-laws (placeFields p)
 
   abbrev Made : Places → Fml
   Made p = T.the-row α .own (viewWith s p) (mach p ∷ [])
 
   made-own : (p : Places) → ent 𝓤 (⋆ 𝓤 H A (‵ Own ∷ ‵ (Fields p) ∷ [])) (sem 𝓤 H A (Made p))
-  made-own p = qed W (‵ Own ∷ ‵ (Fields p) ∷ []) ∵ fjoin ! $ by ! (own-shut 𝓤 H A W (T.the-type α) (T′.the-laws α) (s, fields p))
+  made-own p = qed W (‵ Own ∷ ‵ (Fields p) ∷ []) ∵ fjoin ! $ by ! (own-shut 𝓤 H A W (T.the-type α) (T′.the-laws α) (s, placeFields p))
 
   typed : (p : Places) → Is (T.the-row α) (viewWith s p) (mach p ∷ []) → Holds (hasTy (T′.mir (named 0)) (mach p)) × WT (mach p)
   typed p is = LL.lawful (T.the-type α) (T′.the-laws α) 𝓤 H A W .typed (viewWith s p) _ is .0
 
-  exits : (p : Places) → shown p ≡ placesOf (parseOf (now s)) → ent 𝓤 (⋆ 𝓤 H A (‵ (Made p) ∷ (‵ (flft κ q) ⊛ ‵ ftrue) ∷ ‵ Own ∷ [])) (Post (mach p))
+  exits : (p : Places) → placesTold p ≡ placesOf (parseOf (now s)) → ent 𝓤 (⋆ 𝓤 H A (‵ (Made p) ∷ (‵ (flft κ q) ⊛ ‵ ftrue) ∷ ‵ Own ∷ [])) (Post (mach p))
   exits p e =
       qed W (‵ (Made p) ∷ (‵ (flft κ q) ⊛ ‵ ftrue) ∷ ‵ Own ∷ []) ∵
       suffices ! _ (ends-at 𝓤 H A method.ended stayed (method.clauses 𝓤 H A mem run) W (((κ, tt), (q, tt), tt, (s, tt), (v ∷ [], tt)), tt) (mach p) (viewWith s p) (tt, tt) (tt, tt)) $ says ! (ap (λ (x : Shown). (s, x)) e) $
@@ -127,11 +127,11 @@ module _ {M : Type 1} (𝓤 : URA M) (H : Heap 𝓤) (A : Atoms 𝓤) (W : Given
         move ! (6 ∷ []) $ use1 W (raw (Found 𝓤 H A mem run .pre to) ⊛ (‵ Own ⊛ ‵ Own)) goes $ split ! $
         calls-at ! fm (Found 𝓤 H A mem run) known to (and-then ! (load ! (from ! (stop !)) (look ! 4 refl)) (no-more !)) (λ u.
         use1 W (later (some (λ (p : Places). ((‵ (flft κ q) ⊛ ‵ ftrue) ⊛ ‵ (P.the-row .own p (u ∷ []))) ⊛ raw (ensured 𝓤 H A places.ended (places.clauses 𝓤 H A mem run) (κ, tt) (s, tt) tt p)))) (id⊢ 𝓤 _) $ await ! tt $ pick ! (λ p.
-        split ! $ move ! (1 ∷ []) $ use1 W (raw (fact 𝓤 (shown p ≡ placesOf (parseOf (now s))))) (said p) $ heard ! (shown p ≡ placesOf (parseOf (now s))) (λ e. split ! $ move ! (1 ∷ []) $
+        split ! $ move ! (1 ∷ []) $ use1 W (raw (fact 𝓤 (placesTold p ≡ placesOf (parseOf (now s))))) (said p) $ heard ! (placesTold p ≡ placesOf (parseOf (now s))) (λ e. split ! $ move ! (1 ∷ []) $
         peeks ! P.the-row (Is P.the-row) (shows 𝓤 H A P.the-row) p (u ∷ []) (λ is₁.
         -- [what the places own; the token; what s owns, twice; room for _2; …; _1; …; room for _0; …]
         land ! (from ! (stop !)) (init ! 3 refl (LL.lawful P.the-type P′.the-laws 𝓤 H A W .typed p _ is₁ .0)) $
-        use1 W (given (u ∷ [] ≡ vstruct (spelled (P.the-type .parts) P′.the-laws (fields p)) ∷ []) (‵ (Fields p))) (own-open 𝓤 H A W P.the-type P′.the-laws (fields p) u) $ learn ! (λ e₁. rewrite ! 3 (λ (w : Val). ‵ (fat fullShare P′.mir l₂ 0 w)) (ap only e₁) refl $
+        use1 W (given (u ∷ [] ≡ vstruct (spelled (P.the-type .parts) P′.the-laws (placeFields p)) ∷ []) (‵ (Fields p))) (own-open 𝓤 H A W P.the-type P′.the-laws (placeFields p) u) $ learn ! (λ e₁. rewrite ! 3 (λ (w : Val). ‵ (fat fullShare P′.mir l₂ 0 w)) (ap only e₁) refl $
         move ! (2 ∷ []) $ split ! $ move ! (0 ∷ 2 ∷ []) $ use2 W (‵ (Made p)) (made-own p) $ move ! (0 ∷ 2 ∷ []) $
         -- [what the view owns; the token; what s owns; _2; …; _1; …; room for _0; …]
         peeks ! (T.the-row α) (Is (T.the-row α)) (shows 𝓤 H A (T.the-row α)) (viewWith s p) (mach p ∷ []) (λ is₂.

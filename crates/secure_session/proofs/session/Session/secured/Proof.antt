@@ -1,13 +1,13 @@
 -- `secure_session::session::Session::secured` meets its contract: moved, and the chain set.
 -- Assumes nothing.
 use borrow.Author.Needs.{needs}
-use Rattle.secure_session.proofs.Cases.{chained}
+use Rattle.secure_session.proofs.Cases.{with-chain}
 use Rattle.secure_session.proofs.session.Session.secured.Tie as tie
 use Rattle.secure_session.proofs.session.Session.secured.Statement.{statement}
 
 returns : tie.Need-returns
 returns c =
-    chained (c .before .before .before .before .before .args .self) (c .before .before .before .before .before .args .first) (c .moved .ensures)
+    with-chain (c .before .before .before .before .before .args .self) (c .before .before .before .before .before .args .first) (c .moved .ensures)
 
 pub secured-spec : {M : Type 1} → statement M
 secured-spec = tie.close (tie.spec (λ c κs. search needs) returns)

@@ -1,4 +1,4 @@
--- `secure_cipher::pad::last_block` meets its contract: before turn i, the first i bytes after the whole blocks are copied over zeros.
+-- `secure_cipher::pad::last_data_block` meets its contract: before turn i, the first i bytes after the whole blocks are copied over zeros.
 -- Assumes nothing.
 use Prim.Native.Nat.{_≤_, _-_, _+_, _*_, _/_}
 use mathlib.Core.Path.{refl, sym}
@@ -8,8 +8,8 @@ use lib.Seq.{getD-drop}
 use Rattle.laws.specs.Bytes.{zeros}
 use Rattle.secure_cipher.proofs.PadLaws.{last-made}
 use Rattle.secure_cipher.proofs.Pasted.{Pasted, pasted-none, pasted-more, pasted-all}
-use Rattle.secure_cipher.proofs.pad.last_block.Statement.{statement}
-use Rattle.secure_cipher.proofs.pad.last_block.Tie as tie
+use Rattle.secure_cipher.proofs.pad.last_data_block.Statement.{statement}
+use Rattle.secure_cipher.proofs.pad.last_data_block.Tie as tie
 
 abbrev Inv-loop : tie.InvT-loop
 Inv-loop s at rest out₀ i₀ out i = (i ≤ rest) × Pasted (zeros 16) 0 (drop at s) i out
@@ -31,8 +31,8 @@ returns c =
     let at = length s / 16 * 16 in
     last-made s _ at _ refl refl (pasted-all (omega (arith, length-drop at s)) (c .before .loop .inv .1))
 
-pub last-block-spec : {M : Type 1} → statement M
-last-block-spec =
+pub last-data-block-spec : {M : Type 1} → statement M
+last-data-block-spec =
     tie.close
     (tie.spec Inv-loop μ-loop
     (λ c. omega arith) (λ c. omega arith) (λ c. (omega arith, pasted-none _ _ _ 0 refl)) (λ c. omega arith) (λ c. omega arith) (λ c. omega arith) (λ c. omega arith) (λ c. omega arith)

@@ -1,12 +1,12 @@
--- `settled` meets its contract: the chain moves where the run says so.
+-- `unsealed_on` meets its contract: the chain moves where the run says so.
 -- Assumes nothing.
 use mathlib.Core.Path.{ap, _∙_}
 use Rattle.secure_session.specs.declared.session.Session.{Session}
 use Rattle.secure_unseal.specs.Unseal.{placeAnswer}
 use Rattle.secure_unseal.proofs.Cases.{after-moved, after-still}
 use borrow.Author.Needs.{needs}
-use Rattle.secure_unseal.proofs.frame.settled.Statement.{statement}
-use Rattle.secure_unseal.proofs.frame.settled.Tie as tie
+use Rattle.secure_unseal.proofs.frame.unsealed_on.Statement.{statement}
+use Rattle.secure_unseal.proofs.frame.unsealed_on.Tie as tie
 
 returns : tie.Need-returns
 returns c =
@@ -18,5 +18,5 @@ returns-2 c =
     let a = c .before .args in
     λ w. ap (λ (s : Session). record { answer = placeAnswer (a .r .answer); session = s; work = w; steps = a .r .calls }) (after-still (a .session) (a .r .full) (c .if1 .left))
 
-pub settled-spec : {M : Type 1} → statement M
-settled-spec = tie.close (tie.spec (λ c κs. search needs) returns returns-2)
+pub unsealed-on-spec : {M : Type 1} → statement M
+unsealed-on-spec = tie.close (tie.spec (λ c κs. search needs) returns returns-2)
