@@ -1,10 +1,10 @@
 -- What was read, as C has it: flat, and all 0 after a refusal.
 -- Assumes nothing.
 use Prim.Native.Nat.{ℕ}
-use mathlib.Core.Bool.{Bool, true, false}
+use mathlib.Core.Bool.{false}
 use Rattle.laws.specs.Answer.{Answer, Answer.given, Answer.refused}
 use Rattle.packet_head.specs.Block.{BlockRead}
-use Rattle.packet_head.specs.Trailer.{Tail, Tail.checksum, Tail.crc}
+use Rattle.packet_head.specs.Trailer.{Tail, Tail.checksum, Tail.crc, isCrc}
 use Rattle.packet_parse.specs.Frame.{Head, Fields, typeIn, blockStart, blockLen, macStart}
 use Rattle.ffi.specs.Answers.{cGiven, cRefused}
 use Rattle.ffi.specs.declared.answer.CAnswer.{CAnswer}
@@ -19,10 +19,6 @@ cBlock (refused n vs) = record { answer = cRefused n vs; ty = 0; «data_len» = 
 abbrev pub cHead : Answer Head → CHead
 cHead (given h) = record { answer = cGiven 0; addr = h .addr; len = h .len; sqn = h .ctrl .0; crc = h .ctrl .1; block = h .ctrl .2 }
 cHead (refused n vs) = record { answer = cRefused n vs; addr = 0; len = 0; sqn = 0; crc = false; block = false }
-
-abbrev pub tailIsCrc : Tail → Bool
-tailIsCrc (checksum n) = false
-tailIsCrc (crc n) = true
 
 abbrev pub tailValue : Tail → ℕ
 tailValue (checksum n) = n
@@ -64,7 +60,7 @@ cParsed (given p) =
       «data_start» = p .dataStart;
       «data_len» = p .dataLen;
       «mac_start» = macStart (p .mac);
-      «trailer_is_crc» = tailIsCrc (p .trailer);
+      «trailer_is_crc» = isCrc (p .trailer);
       trailer = tailValue (p .trailer);
       len = p .len;
     }

@@ -2,8 +2,8 @@
 ghost use mathlib.Core.Path.{_≡_};
 ghost use Rattle.packet_head.specs.Block.{scbOf, scbAnswer};
 ghost use Rattle.packet_head.specs.Trailer.{tail};
-ghost use Rattle.packet_parse.specs.Frame.{typeIn, blockStart, blockLen, macStart, headOf, headAnswer, parseOf, parsed, blockPlace, macPlace};
-ghost use Rattle.ffi.specs.Parsing.{cBlock, cHead, cParsed, cNothing, tailIsCrc, tailValue};
+ghost use Rattle.packet_parse.specs.Frame.{typeIn, blockStart, blockLen, headOf, headAnswer, parseOf, parsed, blockPlace};
+ghost use Rattle.ffi.specs.Parsing.{cBlock, cHead, cParsed, cNothing, tailValue};
 use super::answer::CAnswer;
 use super::answer::given;
 use super::answer::refused;
@@ -12,9 +12,9 @@ use packet_head::ScbAnswer;
 use packet_head::Trailer;
 use packet_parse::BlockPart;
 use packet_parse::HeadAnswer;
-use packet_parse::MacPart;
 use packet_parse::Parsed;
 use packet_parse::head;
+use packet_parse::mac_start;
 use packet_parse::parse;
 
 #[repr(C)]
@@ -136,24 +136,6 @@ fn block_len(b: BlockPart) -> usize
     }
 }
 
-fn mac_start(m: MacPart) -> usize
-    ensures { λ r. ⌜ r ≡ macStart (macPlace m) ⌝ }
-{
-    match m {
-        MacPart::Absent => 0,
-        MacPart::At(at) => at,
-    }
-}
-
-fn trailer_is_crc(t: Trailer) -> bool
-    ensures { λ r. ⌜ r ≡ tailIsCrc (tail t) ⌝ }
-{
-    match t {
-        Trailer::Checksum(_) => false,
-        Trailer::Crc(_) => true,
-    }
-}
-
 fn trailer_value(t: Trailer) -> u16
     ensures { λ r. ⌜ r ≡ tailValue (tail t) ⌝ }
 {
@@ -206,7 +188,7 @@ fn parsed_c(a: Parsed) -> CParsed
                 data_start: p.data_start,
                 data_len: p.data_len,
                 mac_start: mac_start(mac),
-                trailer_is_crc: trailer_is_crc(trailer),
+                trailer_is_crc: trailer.is_crc(),
                 trailer: trailer_value(trailer),
                 len: p.len,
             }

@@ -25,6 +25,7 @@ pub use packet_parse::MacPart;
 pub use packet_parse::Parsed;
 pub use packet_parse::ParsedPacket;
 pub use packet_parse::head;
+pub use packet_parse::mac_start;
 pub use packet_parse::parse;
 pub use packet_sums::checksum8;
 pub use packet_sums::crc16;

@@ -9,7 +9,7 @@ use Rattle.laws.specs.Answer.{Answer, Answer.given, Answer.refused, refuseIf, a
 use Rattle.laws.specs.Over.{write}
 use Rattle.refusal.specs.Paper.{refusalOf}
 use Rattle.packet_sums.specs.Checksum.{checksumOf}
-use Rattle.packet_sums.specs.Crc.{crcOf}
+use Rattle.packet_sums.specs.Crc.{crcOf, lowFirst}
 use Rattle.packet_head.specs.Header.{Control, control, ctrlByte}
 use Rattle.packet_head.specs.Block.{hasMac, typeOf}
 use Rattle.packet_head.specs.Trailer.{trailerLen, macLen}
@@ -82,9 +82,9 @@ headBytes addr ctrl total = 0x53 ∷ addr ∷ total % 256 ∷ total / 256 ∷ ct
 unfoldable pub bodyBytes : ℕ → Control → FrameBlock → ℕ → List ℕ → ℕ → List ℕ
 bodyBytes addr ctrl b code dat total = headBytes addr ctrl total ++ blockBytes b ++ (code ∷ []) ++ dat
 
--- the trailer of what stands before it; of a CRC the low byte first
+-- the trailer of what stands before it
 abbrev pub tailBytes : Bool → List ℕ → List ℕ
-tailBytes true l = crcOf l % 256 ∷ crcOf l / 256 ∷ []
+tailBytes true l = lowFirst (crcOf l)
 tailBytes false l = checksumOf l ∷ []
 
 -- from 53 to the end of the MAC

@@ -5,7 +5,7 @@ ghost use Prim.Native.Nat.{_≤_};
 ghost use Rattle.laws.specs.Answer.{Answer.refused};
 ghost use Rattle.packet_head.specs.Header.{control};
 ghost use Rattle.packet_head.specs.Trailer.{macLen};
-ghost use Rattle.packet_parse.specs.Frame.{macPlace, macAt, blockPlace, headOf, headAnswer, partsOf, frameOf, parseOf, parsed};
+ghost use Rattle.packet_parse.specs.Frame.{macPlace, macStart, macAt, blockPlace, headOf, headAnswer, partsOf, frameOf, parseOf, parsed};
 use super::trailing::TrailerAnswer;
 use super::trailing::check;
 use super::trailing::word;
@@ -77,6 +77,16 @@ fn mac_part(mac: bool, at: usize) -> MacPart
         MacPart::At(at)
     } else {
         MacPart::Absent
+    }
+}
+
+// Where a MAC starts; 0 where there is none.
+pub fn mac_start(mac: MacPart) -> usize
+    ensures { λ r. ⌜ r ≡ macStart (macPlace mac) ⌝ }
+{
+    match mac {
+        MacPart::Absent => 0,
+        MacPart::At(at) => at,
     }
 }
 

@@ -9,4 +9,5 @@ pub use codec::MacPart;
 pub use codec::Parsed;
 pub use codec::ParsedPacket;
 pub use codec::head;
+pub use codec::mac_start;
 pub use codec::parse;

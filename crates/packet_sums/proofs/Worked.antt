@@ -12,5 +12,5 @@ workedSums =
     ∷ (checksumOf (0x53 ∷ 0x05 ∷ 0x09 ∷ 0x00 ∷ 0x08 ∷ 0x02 ∷ 0x11 ∷ 0x60 ∷ []) ∷ []) ∷ (crcOf [] ∷ checksumOf [] ∷ []) ∷ []
 
 pub worked-right : workedSums ≡ (0xBC ∷ 0x89 ∷ []) ∷ (0x41 ∷ []) ∷ (0x24 ∷ []) ∷ (0x1D0F ∷ 0 ∷ []) ∷ []
-unfolding sumOf checksumOf reduce crcBit crcBits crcByte crcFrom lowFirst
+unfolding sumOf checksumOf reduce crcBit crcBits crcByte crcFrom
 worked-right = refl

@@ -38,5 +38,5 @@ abbrev pub crcOf : List ℕ → ℕ
 crcOf s = crcFrom crcStart s
 
 -- as it travels: two bytes, the low one first
-unfoldable pub lowFirst : ℕ → List ℕ
+abbrev pub lowFirst : ℕ → List ℕ
 lowFirst c = c % 256 ∷ c / 256 ∷ []

@@ -36,7 +36,6 @@ pub end-written : (o f y c z : List ℕ) (end : ℕ) → length f ≡ 16 → y �
     → c ≡ lowFirst (crcOf (take (end + 4) (putMid end (end + 4 - end) o y))) → z ≡ c
     → putMid (end + 4) (end + 6 - (end + 4)) (putMid end (end + 4 - end) o y) z
     ≡ write (write o end (take 4 f)) (end + 4) (tailBytes true (take (end + 4) (write o end (take 4 f))))
-unfolding lowFirst
 end-written o f y c z end n ey ec ez =
     let w : putMid end (end + 4 - end) o y ≡ write o end (take 4 f) =
     part-write o end (end + 4 - end) y (ap length ey ∙ omega arith) ∙ ap (write o end) (ey ∙ front-listed f 4 (omega arith)) in

@@ -5,12 +5,11 @@ ghost use Prim.Native.Nat.{ℕ, _+_, _≤_};
 ghost use lib.ListN.{length, take, drop};
 ghost use Rattle.laws.specs.Answer.{Answer.given};
 ghost use Rattle.laws.specs.Bytes.{compl, eql};
-ghost use Rattle.packet_parse.specs.Frame.{macStart, parseOf, fields, macPlace};
+ghost use Rattle.packet_parse.specs.Frame.{parseOf, fields};
 ghost use Rattle.secure_cipher.specs.Cbc.{decryptOf, wiped, cipherTold};
 ghost use Rattle.secure_unseal.specs.Unseal.{check, openData, unsealPlain, unsealHidden, unsealParsed, unsealedOn, unsealOf, unsealTold};
 ghost use Rattle.secure_unseal.specs.Parts.{checked, ran, stopped};
 use packet_parse::BlockPart;
-use packet_parse::MacPart;
 use packet_parse::Parsed;
 use packet_parse::ParsedPacket;
 use refusal::Refusal;
@@ -177,15 +176,6 @@ fn unseal_hidden(
     }
 }
 
-fn mac_start(mac: MacPart) -> usize
-    ensures { λ r. ⌜ r ≡ macStart (macPlace mac) ⌝ }
-{
-    match mac {
-        MacPart::Absent => 0,
-        MacPart::At(at) => at,
-    }
-}
-
 // A frame that was read: the block's type says how it is sealed.
 fn unseal_parsed(
     keys: SessionKeys,
@@ -207,7 +197,7 @@ fn unseal_parsed(
             len: _,
         } => {
             if ty.has_mac() {
-                let mac_at = mac_start(mac);
+                let mac_at = packet_parse::mac_start(mac);
                 if ty.is_encrypted() {
                     unseal_hidden(keys, start, frame, p, mac_at, work)
                 } else {

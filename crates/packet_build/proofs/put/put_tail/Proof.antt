@@ -8,7 +8,6 @@ use native.Mathlib.Omega.{arith}
 use lib.ListN.{length}
 use lib.Seq.{length-take-le}
 use Rattle.laws.specs.Over.{write}
-use Rattle.packet_sums.specs.Crc.{lowFirst}
 use Rattle.packet_build.proofs.put.put_tail.Statement.{statement}
 use Rattle.packet_build.proofs.put.put_tail.Tie as tie
 
@@ -16,7 +15,6 @@ slice-aggregate-crc16-le : tie.Need-slice-aggregate-crc16-le
 slice-aggregate-crc16-le c = sym (length-take-le _ _ (omega arith))
 
 copy-in-requires : tie.Need-copy-in-requires
-unfolding lowFirst
 copy-in-requires c κs = omega (arith, ap length (c .before .before .crc16-le .ensures), rw (c .before .before .before .before .if1 .taken) at (c .before .before .before .before .before .before .pre))
 
 slice-aggregate-checksum8 : tie.Need-slice-aggregate-checksum8
@@ -26,7 +24,6 @@ copy-in-requires-2 : tie.Need-copy-in-requires-2
 copy-in-requires-2 c κs = omega (arith, rw (c .before .before .before .before .if1 .left) at (c .before .before .before .before .before .before .pre))
 
 returns : tie.Need-returns
-unfolding lowFirst
 returns c =
     let a = c .before .before .before .before .before .before .before .before .before .args in
     let z = c .before .before .copy-in .ensures in

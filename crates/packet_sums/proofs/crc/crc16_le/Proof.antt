@@ -7,7 +7,6 @@ use Rattle.packet_sums.proofs.crc.crc16_le.Statement.{statement}
 use Rattle.packet_sums.proofs.crc.crc16_le.Tie as tie
 
 returns : tie.Need-returns
-unfolding lowFirst
 returns c = ap lowFirst (c .crc16 .ensures)
 
 pub crc16-le-spec : {M : Type 1} → statement M
