@@ -2,23 +2,18 @@
 -- Assumes nothing.
 use mathlib.Core.Path.{_≡_, refl, sym, ap, ap₂, _∙_}
 use Prim.Native.Nat.{ℕ, zero, suc, _*_, _/_, _%_, _<_}
-use native.Mathlib.Nat.{add-zero}
 use native.Mathlib.Omega.{arith}
 use lib.Dec.{lit<}
-use lib.Bits.{bitXor, xor-shr, xor-mod, xor-block}
+use lib.Bits.{xor-shr, xor-mod}
 use Rattle.aes_field.specs.Field.{_⊕_, xtime, bitTimes, bitsTimes, _•_}
-use Rattle.laws.proofs.Xor.{bit-ind}
-use Rattle.aes_field.proofs.Sums.{⊕-assoc, ⊕-comm, ⊕-self, zero-⊕, ⊕-zero, ⊕-lt, ⊕-left-comm}
+use Rattle.laws.proofs.Xor.{bit-ind, xor-shl}
+use Rattle.aes_field.proofs.Sums.{⊕-assoc, ⊕-comm, ⊕-self, zero-⊕, ⊕-zero, ⊕-lt, ⊕-left-comm, ⊕-swap}
 
 pub ruleset sums = (⊕-assoc, ⊕-comm, ⊕-left-comm)
 
-medial : (a b c d : ℕ) → (a ⊕ b) ⊕ (c ⊕ d) ≡ (a ⊕ c) ⊕ (b ⊕ d)
-medial a b c d = simp sums
-
 ⊕-double : (a b : ℕ) → (a ⊕ b) * 2 ≡ (a * 2) ⊕ (b * 2)
 unfolding _⊕_
-⊕-double a b =
-    sym (add-zero (bitXor a b * 2)) ∙ sym (xor-block 1 a b 0 0 (lit< tt) (lit< tt)) ∙ ap₂ bitXor (add-zero (a * 2)) (add-zero (b * 2))
+⊕-double a b = xor-shl 1 a b
 
 ⊕-mod : (a b : ℕ) → (a ⊕ b) % 256 ≡ (a % 256) ⊕ (b % 256)
 unfolding _⊕_
@@ -41,37 +36,37 @@ xtime-⊕ a b ha hb =
     ap₂ _⊕_
     (ap (λ (x : ℕ). x % 256) (⊕-double a b) ∙ ⊕-mod (a * 2) (b * 2))
     (ap (λ (x : ℕ). x * 27) (⊕-top a b) ∙ bits27 (a / 128) (omega arith) (b / 128) (omega arith))
-    ∙ medial (a * 2 % 256) (b * 2 % 256) (a / 128 * 27) (b / 128 * 27)
+    ∙ ⊕-swap (a * 2 % 256) (b * 2 % 256) (a / 128 * 27) (b / 128 * 27)
 
 pub xtime-lt : {a : ℕ} → a < 256 → xtime a < 256
 unfolding xtime
 xtime-lt {a} h = ⊕-lt (omega arith) (omega arith)
 
-pub ruleset zeros = (zero-⊕, ⊕-zero)
+ruleset no-terms = (zero-⊕, ⊕-zero)
 
 pub times2 : (a : ℕ) → 2 • a ≡ xtime a
 unfolding _•_ bitsTimes
-times2 a = simp zeros
+times2 a = simp no-terms
 
 pub times3 : (a : ℕ) → 3 • a ≡ a ⊕ xtime a
 unfolding _•_ bitsTimes
-times3 a = simp zeros
+times3 a = simp no-terms
 
 pub times9 : (a : ℕ) → 9 • a ≡ a ⊕ xtime (xtime (xtime a))
 unfolding _•_ bitsTimes
-times9 a = simp zeros
+times9 a = simp no-terms
 
 pub times11 : (a : ℕ) → 11 • a ≡ a ⊕ (xtime a ⊕ xtime (xtime (xtime a)))
 unfolding _•_ bitsTimes
-times11 a = simp zeros
+times11 a = simp no-terms
 
 pub times13 : (a : ℕ) → 13 • a ≡ a ⊕ (xtime (xtime a) ⊕ xtime (xtime (xtime a)))
 unfolding _•_ bitsTimes
-times13 a = simp zeros
+times13 a = simp no-terms
 
 pub times14 : (a : ℕ) → 14 • a ≡ xtime a ⊕ (xtime (xtime a) ⊕ xtime (xtime (xtime a)))
 unfolding _•_ bitsTimes
-times14 a = simp zeros
+times14 a = simp no-terms
 
 pub mixed : (a b c d : ℕ) → a < 256 → b < 256 → xtime (a ⊕ b) ⊕ b ⊕ c ⊕ d ≡ 2 • a ⊕ 3 • b ⊕ c ⊕ d
 mixed a b c d ha hb = simp (times2, times3, xtime-⊕ a b ha hb, sums)
@@ -90,7 +85,7 @@ bitsTimes-⊕ zero b x y hx hy = sym (zero-⊕ 0)
 bitsTimes-⊕ (suc n) b x y hx hy =
     ap₂ _⊕_ (bitTimes-⊕ (b % 2) x y)
     (ap (bitsTimes n (b / 2)) (xtime-⊕ x y hx hy) ∙ bitsTimes-⊕ n (b / 2) (xtime x) (xtime y) (xtime-lt hx) (xtime-lt hy))
-    ∙ medial (bitTimes (b % 2) x) (bitTimes (b % 2) y) (bitsTimes n (b / 2) (xtime x)) (bitsTimes n (b / 2) (xtime y))
+    ∙ ⊕-swap (bitTimes (b % 2) x) (bitTimes (b % 2) y) (bitsTimes n (b / 2) (xtime x)) (bitsTimes n (b / 2) (xtime y))
 
 bitsTimes-lt : (n b : ℕ) {x : ℕ} → x < 256 → bitsTimes n b x < 256
 unfolding bitsTimes
@@ -120,37 +115,41 @@ circle : (a0 b0 c0 d0 a1 b1 c1 d1 a2 b2 c2 d2 a3 b3 c3 d3 : ℕ)
     ≡ (a0 ⊕ a1 ⊕ a2 ⊕ a3) ⊕ (b0 ⊕ b1 ⊕ b2 ⊕ b3) ⊕ (c0 ⊕ c1 ⊕ c2 ⊕ c3) ⊕ (d0 ⊕ d1 ⊕ d2 ⊕ d3)
 circle a0 b0 c0 d0 a1 b1 c1 d1 a2 b2 c2 d2 a3 b3 c3 d3 = simp sums
 
+pub ruleset products = (times2, times3, times9, times11, times13, times14, xtime-⊕)
+
+ruleset cancelling = (sums, ⊕-self, ⊕-back, no-terms)
+
 -- the coefficients of the products of the two matrices, one way and the other: 1 and 0
 module _ (v : ℕ) (h : v < 256) (x1 : xtime v < 256) (x2 : xtime (xtime v) < 256) (x3 : xtime (xtime (xtime v)) < 256) where
   one : 14 • (2 • v) ⊕ 11 • v ⊕ 13 • v ⊕ 9 • (3 • v) ≡ v
-  one = simp (times2, times3, times9, times11, times13, times14, xtime-⊕) (simp (sums, ⊕-self, ⊕-back, zeros))
+  one = simp products (simp cancelling)
 
   none1 : 14 • (3 • v) ⊕ 11 • (2 • v) ⊕ 13 • v ⊕ 9 • v ≡ 0
-  none1 = simp (times2, times3, times9, times11, times13, times14, xtime-⊕) (simp (sums, ⊕-self, ⊕-back, zeros))
+  none1 = simp products (simp cancelling)
 
   none2 : 14 • v ⊕ 11 • (3 • v) ⊕ 13 • (2 • v) ⊕ 9 • v ≡ 0
-  none2 = simp (times2, times3, times9, times11, times13, times14, xtime-⊕) (simp (sums, ⊕-self, ⊕-back, zeros))
+  none2 = simp products (simp cancelling)
 
   none3 : 14 • v ⊕ 11 • v ⊕ 13 • (3 • v) ⊕ 9 • (2 • v) ≡ 0
-  none3 = simp (times2, times3, times9, times11, times13, times14, xtime-⊕) (simp (sums, ⊕-self, ⊕-back, zeros))
+  none3 = simp products (simp cancelling)
 
   one-back : 2 • (14 • v) ⊕ 3 • (9 • v) ⊕ 13 • v ⊕ 11 • v ≡ v
-  one-back = simp (times2, times3, times9, times11, times13, times14, xtime-⊕, ⊕-lt) (simp (sums, ⊕-self, ⊕-back, zeros))
+  one-back = simp (products, ⊕-lt) (simp cancelling)
 
   none1-back : 2 • (11 • v) ⊕ 3 • (14 • v) ⊕ 9 • v ⊕ 13 • v ≡ 0
-  none1-back = simp (times2, times3, times9, times11, times13, times14, xtime-⊕, ⊕-lt) (simp (sums, ⊕-self, ⊕-back, zeros))
+  none1-back = simp (products, ⊕-lt) (simp cancelling)
 
   none2-back : 2 • (13 • v) ⊕ 3 • (11 • v) ⊕ 14 • v ⊕ 9 • v ≡ 0
-  none2-back = simp (times2, times3, times9, times11, times13, times14, xtime-⊕, ⊕-lt) (simp (sums, ⊕-self, ⊕-back, zeros))
+  none2-back = simp (products, ⊕-lt) (simp cancelling)
 
   none3-back : 2 • (9 • v) ⊕ 3 • (13 • v) ⊕ 11 • v ⊕ 14 • v ≡ 0
-  none3-back = simp (times2, times3, times9, times11, times13, times14, xtime-⊕, ⊕-lt) (simp (sums, ⊕-self, ⊕-back, zeros))
+  none3-back = simp (products, ⊕-lt) (simp cancelling)
 
-q2 : {v : ℕ} → v < 256 → xtime (xtime v) < 256
-q2 h = xtime-lt (xtime-lt h)
+xtime-twice-lt : {v : ℕ} → v < 256 → xtime (xtime v) < 256
+xtime-twice-lt h = xtime-lt (xtime-lt h)
 
-q3 : {v : ℕ} → v < 256 → xtime (xtime (xtime v)) < 256
-q3 h = xtime-lt (q2 h)
+xtime-thrice-lt : {v : ℕ} → v < 256 → xtime (xtime (xtime v)) < 256
+xtime-thrice-lt h = xtime-lt (xtime-twice-lt h)
 
 -- a byte of MIXCOLUMNS and of INVMIXCOLUMNS, from the one in its place and the three below it
 abbrev pub mixByte : ℕ → ℕ → ℕ → ℕ → ℕ
@@ -171,8 +170,8 @@ unmix-mix a b c d ha hb hc hd =
     (11 • a) (11 • (2 • b)) (11 • (3 • c)) (11 • d)
     (13 • a) (13 • b) (13 • (2 • c)) (13 • (3 • d))
     (9 • (3 • a)) (9 • b) (9 • c) (9 • (2 • d))
-    ∙ ap₂ _⊕_ (ap₂ _⊕_ (ap₂ _⊕_ (one a ha (xtime-lt ha) (q2 ha) (q3 ha)) (none1 b hb (xtime-lt hb) (q2 hb) (q3 hb))) (none2 c hc (xtime-lt hc) (q2 hc) (q3 hc))) (none3 d hd (xtime-lt hd) (q2 hd) (q3 hd))
-    ∙ simp zeros
+    ∙ ap₂ _⊕_ (ap₂ _⊕_ (ap₂ _⊕_ (one a ha (xtime-lt ha) (xtime-twice-lt ha) (xtime-thrice-lt ha)) (none1 b hb (xtime-lt hb) (xtime-twice-lt hb) (xtime-thrice-lt hb))) (none2 c hc (xtime-lt hc) (xtime-twice-lt hc) (xtime-thrice-lt hc))) (none3 d hd (xtime-lt hd) (xtime-twice-lt hd) (xtime-thrice-lt hd))
+    ∙ simp no-terms
 
 pub mix-unmix : (a b c d : ℕ) → a < 256 → b < 256 → c < 256 → d < 256
     → mixByte (unmixByte a b c d) (unmixByte b c d a) (unmixByte c d a b) (unmixByte d a b c) ≡ a
@@ -185,5 +184,5 @@ mix-unmix a b c d ha hb hc hd =
     (3 • (9 • a)) (3 • (14 • b)) (3 • (11 • c)) (3 • (13 • d))
     (13 • a) (9 • b) (14 • c) (11 • d)
     (11 • a) (13 • b) (9 • c) (14 • d)
-    ∙ ap₂ _⊕_ (ap₂ _⊕_ (ap₂ _⊕_ (one-back a ha (xtime-lt ha) (q2 ha) (q3 ha)) (none1-back b hb (xtime-lt hb) (q2 hb) (q3 hb))) (none2-back c hc (xtime-lt hc) (q2 hc) (q3 hc))) (none3-back d hd (xtime-lt hd) (q2 hd) (q3 hd))
-    ∙ simp zeros
+    ∙ ap₂ _⊕_ (ap₂ _⊕_ (ap₂ _⊕_ (one-back a ha (xtime-lt ha) (xtime-twice-lt ha) (xtime-thrice-lt ha)) (none1-back b hb (xtime-lt hb) (xtime-twice-lt hb) (xtime-thrice-lt hb))) (none2-back c hc (xtime-lt hc) (xtime-twice-lt hc) (xtime-thrice-lt hc))) (none3-back d hd (xtime-lt hd) (xtime-twice-lt hd) (xtime-thrice-lt hd))
+    ∙ simp no-terms

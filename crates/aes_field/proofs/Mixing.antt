@@ -9,7 +9,7 @@ use Rattle.laws.specs.Bytes.{Bytes, xorl}
 use Rattle.aes_field.specs.Field.{_⊕_, xtime}
 use Rattle.aes_field.specs.Packed.{packed, unpacked, columns}
 use Rattle.aes_field.proofs.Sums.{⊕-assoc, ⊕-lt}
-use Rattle.aes_field.proofs.Linear.{mixByte, unmixByte, sums, mixed, times2, times3, times9, times11, times13, times14, xtime-⊕, xtime-lt, ⊕-back}
+use Rattle.aes_field.proofs.Linear.{mixByte, unmixByte, sums, products, mixed, xtime-⊕, xtime-lt, ⊕-back}
 use Rattle.aes_field.proofs.Packing.{eight, eight-bytes, map-bytes, unpacked-xor, unpacked-packed, unpacked-bytes}
 
 -- ---- a byte of each
@@ -36,7 +36,7 @@ unmix-byte a b c d ha hb hc hd =
     let ca : xtime (xtime (c ⊕ a)) ≡ xtime (xtime c) ⊕ xtime (xtime a) = twice-twice-⊕ c a hc ha in
     let db : xtime (xtime (d ⊕ b)) ≡ xtime (xtime d) ⊕ xtime (xtime b) = twice-twice-⊕ d b hd hb in
     (λ i. mixByte (a ⊕ ac i) (b ⊕ bd i) (c ⊕ ca i) (d ⊕ db i))
-    ∙ simp (times2, times3, times9, times11, times13, times14, xtime-⊕, ⊕-lt) (simp (sums, ⊕-back))
+    ∙ simp (products, ⊕-lt) (simp (sums, ⊕-back))
 
 -- ---- two packed columns
 

@@ -3,7 +3,7 @@
 use mathlib.Core.Path.{_≡_, refl}
 use Prim.Native.Nat.{ℕ, _<_}
 use lib.Bits.{xor-comm, xor-self, xor-zero-r, xor-lt}
-use Rattle.laws.proofs.Xor.{xor-assoc, xor-left-comm, xor-cancel}
+use Rattle.laws.proofs.Xor.{xor-assoc, xor-left-comm, xor-swap, xor-cancel}
 use Rattle.aes_field.specs.Field.{_⊕_}
 
 pub ⊕-assoc : (a b c : ℕ) → (a ⊕ b) ⊕ c ≡ a ⊕ (b ⊕ c)
@@ -33,6 +33,10 @@ unfolding _⊕_
 pub ⊕-left-comm : (a b c : ℕ) → a ⊕ (b ⊕ c) ≡ b ⊕ (a ⊕ c)
 unfolding _⊕_
 ⊕-left-comm a b c = xor-left-comm a b c
+
+pub ⊕-swap : (a b c d : ℕ) → (a ⊕ b) ⊕ (c ⊕ d) ≡ (a ⊕ c) ⊕ (b ⊕ d)
+unfolding _⊕_
+⊕-swap a b c d = xor-swap a b c d
 
 pub ⊕-cancel : (a b : ℕ) → a ⊕ b ⊕ b ≡ a
 unfolding _⊕_

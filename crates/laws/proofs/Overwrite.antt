@@ -6,7 +6,7 @@ use Prim.Native.Nat.{ℕ, _+_, _-_, _≤_}
 use native.Mathlib.Nat.{add-zero, add-assoc}
 use native.Mathlib.Omega.{arith}
 use lib.ListN.{length, take, drop, length-append, length-drop, take-append-drop}
-use lib.Seq.{length-take-le, take-length, take-at, drop-append-add, drop-drop, paste}
+use lib.Seq.{length-take-le, take-length, take-at, drop-at, drop-append-add, drop-drop, paste}
 use Rattle.laws.specs.Over.{write}
 
 pub paste-write : (l : List ℕ) (at : ℕ) (s : List ℕ) → paste l at s (length s) ≡ write l at s
@@ -40,14 +40,21 @@ write-write l at s k t e h =
     ap₂ (λ (x y : List ℕ). x ++ t ++ y) (take-at p r k f) d
     ∙ ap₂ (λ (x : List ℕ) (n : ℕ). x ++ drop (at + n) l) (append-assoc (take at l) s t) (sym (length-append s t))
 
+-- as much again, over it
+pub write-over : (o s t : List ℕ) → length s ≡ length t → write (write o 0 s) 0 t ≡ write o 0 t
+unfolding write
+write-over o s t e =
+    ap (λ (r : List ℕ). t ++ r)
+    (ap (λ (n : ℕ). drop (0 + n) (s ++ drop (0 + length s) o)) (sym e) ∙ drop-at s (drop (0 + length s) o) (0 + length s) (omega arith) ∙ ap (λ (n : ℕ). drop (0 + n) o) e)
+
 pub take-write : (l : List ℕ) (n : ℕ) (s : List ℕ) → n ≡ length s → take n (write l 0 s) ≡ s
 unfolding write
 take-write l n s e = take-at s (drop (0 + length s) l) n (sym e)
 
 -- four parts, one after the other
-pub four : (o h b s d : List ℕ) (j k : ℕ) → 5 ≡ length h → j ≡ 5 + length b → k ≡ j + length s → 5 + length b + length s + length d ≤ length o
+pub write-four : (o h b s d : List ℕ) (j k : ℕ) → 5 ≡ length h → j ≡ 5 + length b → k ≡ j + length s → 5 + length b + length s + length d ≤ length o
     → write (write (write (write o 0 h) 5 b) j s) k d ≡ write o 0 (h ++ b ++ s ++ d)
-four o h b s d j k e f g r =
+write-four o h b s d j k e f g r =
     let lb : length (h ++ b) ≡ 5 + length b = length-append h b ∙ ap (λ (n : ℕ). n + length b) (sym e) in
     let ls : length (h ++ b ++ s) ≡ 5 + length b + length s = length-append (h ++ b) s ∙ ap (λ (n : ℕ). n + length s) lb in
     ap (λ (x : List ℕ). write (write x j s) k d) (write-write o 0 h 5 b (omega arith) (omega arith))

@@ -1,11 +1,12 @@
 -- The laws of exclusive or that the library lacks.
 -- Assumes nothing.
 use mathlib.Core.Path.{_≡_, refl, sym, ap, ap₂, _∙_}
-use Prim.Native.Nat.{ℕ, zero, suc, _+_, _*_, _/_, _%_, _<_}
-use native.Mathlib.Nat.{le-of-suc-le-suc, not-suc-le-zero, mod-lt}
+use Prim.Native.Nat.{ℕ, zero, suc, _+_, _*_, _/_, _%_, _^_, _<_}
+use native.Mathlib.Nat.{add-zero, le-of-suc-le-suc, not-suc-le-zero, mod-lt}
 use lib.Arith.{bin-ind}
 use lib.Dec.{lit<}
-use lib.Bits.{bitXor, differ, xor-step, xor-shr, xor-mod, xor-comm, xor-self, xor-zero-r}
+use lib.Pow.{pow-pos}
+use lib.Bits.{bitXor, differ, xor-step, xor-shr, xor-mod, xor-comm, xor-self, xor-zero-r, xor-block}
 
 -- what holds of 0 and of 1 holds of a bit
 pub bit-ind : (P : ℕ → Type 0) → P 0 → P 1 → (x : ℕ) → x < 2 → P x
@@ -36,6 +37,16 @@ xor-assoc a =
 
 pub xor-left-comm : (a b c : ℕ) → bitXor a (bitXor b c) ≡ bitXor b (bitXor a c)
 xor-left-comm a b c = sym (xor-assoc a b c) ∙ ap (λ (x : ℕ). bitXor x c) (xor-comm a b) ∙ xor-assoc b a c
+
+-- four numbers, in another order
+pub xor-swap : (a b c d : ℕ) → bitXor (bitXor a b) (bitXor c d) ≡ bitXor (bitXor a c) (bitXor b d)
+xor-swap a b c d = xor-assoc a b (bitXor c d) ∙ ap (bitXor a) (xor-left-comm b c d) ∙ sym (xor-assoc a c (bitXor b d))
+
+-- moved up by k digits
+pub xor-shl : (k x y : ℕ) → bitXor x y * 2 ^ k ≡ bitXor (x * 2 ^ k) (y * 2 ^ k)
+xor-shl k x y =
+    let e : bitXor (x * 2 ^ k + 0) (y * 2 ^ k + 0) ≡ bitXor x y * 2 ^ k + 0 = xor-block k x y 0 0 (pow-pos k) (pow-pos k) in
+    sym (add-zero (bitXor x y * 2 ^ k)) ∙ sym e ∙ ap₂ bitXor (add-zero (x * 2 ^ k)) (add-zero (y * 2 ^ k))
 
 -- twice with the same number gives the number back
 pub xor-cancel : (a b : ℕ) → bitXor (bitXor a b) b ≡ a

@@ -11,9 +11,9 @@ use lib.Dec.{eqb, lit<}
 use lib.ListN.{length, getD, take, drop, take-append-drop, length-replicate}
 use lib.Seq.{take-suc}
 use Rattle.laws.specs.Bytes.{xorl, zeros}
-use Rattle.laws.proofs.Xor.{bit-ind, xor-assoc}
+use Rattle.laws.proofs.Xor.{bit-ind, xor-assoc, xor-swap, xor-shl}
 use Rattle.packet_sums.specs.Crc.{polynomial, crcStart, reduce, crcBit, crcBits, crcByte, crcFrom, crcOf}
-use Rattle.packet_sums.proofs.Linear.{Linear, linear-same, linear-after, xor-swap, xor-shl}
+use Rattle.packet_sums.proofs.Linear.{Linear, linear-same, linear-after}
 
 -- ---- clauses
 

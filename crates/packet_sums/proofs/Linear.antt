@@ -3,19 +3,18 @@
 -- Assumes nothing.
 use mathlib.Core.Path.{_≡_, refl, sym, ap, ap₂, _∙_, subst}
 use mathlib.Core.Bool.{cond}
-use Prim.Native.Nat.{ℕ, zero, suc, _+_, _-_, _*_, _/_, _%_, _^_, _<_}
-use native.Mathlib.Nat.{add-zero, zero-add, one-mul, pow-suc}
+use Prim.Native.Nat.{ℕ, zero, suc, _-_, _*_, _/_, _%_, _^_, _<_}
+use native.Mathlib.Nat.{zero-add, one-mul, pow-suc}
 use native.Mathlib.Decide.{decLt}
 use native.Mathlib.Omega.{arith}
 use lib.Arith.{lt-one}
-use lib.Pow.{pow-pos}
-use lib.Bits.{bitXor, xor-self, xor-shr, xor-mod, xor-block, xor-shifted}
+use lib.Bits.{bitXor, xor-self, xor-shr, xor-mod, xor-shifted}
 use lib.Dec.{T, eqb, eqb→eq}
 use lib.ListN.{getD}
 use Rattle.laws.specs.Table.{from}
 use Rattle.laws.proofs.Entries.{every, every-at}
 use Rattle.laws.proofs.Listed.{length-from, getD-from}
-use Rattle.laws.proofs.Xor.{xor-assoc, xor-left-comm}
+use Rattle.laws.proofs.Xor.{xor-swap, xor-shl}
 
 -- what f gives for the exclusive or of two numbers is the exclusive or of what it gives for each
 pub record Linear (f : ℕ → ℕ) : Type 0 where
@@ -29,10 +28,6 @@ linear-same = record { apart = λ x y. refl }
 pub linear-after : {f g : ℕ → ℕ} → Linear f → Linear g → Linear (λ x. f (g x))
 linear-after {f} {g} hf hg = record { apart = λ x y. ap f (hg .apart x y) ∙ hf .apart (g x) (g y) }
 
--- four numbers, in another order
-pub xor-swap : (a b c d : ℕ) → bitXor (bitXor a b) (bitXor c d) ≡ bitXor (bitXor a c) (bitXor b d)
-xor-swap a b c d = xor-assoc a b (bitXor c d) ∙ ap (bitXor a) (xor-left-comm b c d) ∙ sym (xor-assoc a c (bitXor b d))
-
 pub linear-xor : {f g : ℕ → ℕ} → Linear f → Linear g → Linear (λ x. bitXor (f x) (g x))
 linear-xor {f} {g} hf hg = record { apart = λ x y. ap₂ bitXor (hf .apart x y) (hg .apart x y) ∙ xor-swap (f x) (f y) (g x) (g y) }
 
@@ -42,11 +37,6 @@ linear-shr {f} h k = record { apart = λ x y. ap (λ (n : ℕ). n / 2 ^ k) (h .a
 
 pub linear-mod : {f : ℕ → ℕ} → Linear f → (k : ℕ) → Linear (λ x. f x % 2 ^ k)
 linear-mod {f} h k = record { apart = λ x y. ap (λ (n : ℕ). n % 2 ^ k) (h .apart x y) ∙ xor-mod (f x) (f y) k }
-
-pub xor-shl : (k x y : ℕ) → bitXor x y * 2 ^ k ≡ bitXor (x * 2 ^ k) (y * 2 ^ k)
-xor-shl k x y =
-    let e : bitXor (x * 2 ^ k + 0) (y * 2 ^ k + 0) ≡ bitXor x y * 2 ^ k + 0 = xor-block k x y 0 0 (pow-pos k) (pow-pos k) in
-    sym (add-zero (bitXor x y * 2 ^ k)) ∙ sym e ∙ ap₂ bitXor (add-zero (x * 2 ^ k)) (add-zero (y * 2 ^ k))
 
 pub linear-shl : {f : ℕ → ℕ} → Linear f → (k : ℕ) → Linear (λ x. f x * 2 ^ k)
 linear-shl {f} h k = record { apart = λ x y. ap (λ (n : ℕ). n * 2 ^ k) (h .apart x y) ∙ xor-shl k (f x) (f y) }

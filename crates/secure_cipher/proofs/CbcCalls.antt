@@ -6,12 +6,12 @@ use Prim.Native.Nat.{ℕ, _+_, _-_, _*_, _/_, _%_, _≤_, _<_}
 use native.Mathlib.Omega.{arith}
 use borrow.Author.Tests.{eq-eqb, ne-eqb, lt-ltb, le-ltb}
 use lib.ListN.{length, take, drop, set, length-set, length-replicate}
-use lib.Seq.{drop-at, set-append-left}
+use lib.Seq.{set-append-left}
 use Rattle.laws.specs.Answer.{Answer, Answer.given, Answer.refused}
 use Rattle.laws.specs.Bytes.{Bytes, zeros}
 use Rattle.laws.specs.Blocks.{Block, blocks, flat}
 use Rattle.laws.specs.Over.{write}
-use Rattle.laws.proofs.Overwrite.{take-write}
+use Rattle.laws.proofs.Overwrite.{take-write, write-over}
 use Rattle.secure_cipher.specs.Pad.{padData, unpad}
 use Rattle.secure_cipher.specs.Cbc.{Done, CbcRun, Opening, decRun, hide, reveal, encryptOf, decryptOf, openedInto, wiped, laid}
 use Rattle.secure_cipher.specs.Parts.{badPadding, Deciphered}
@@ -32,14 +32,7 @@ module _ (k v x o : List ℕ) (need : ℕ) (e : need ≡ length (padData x)) whe
   unfolding encryptOf
   encrypt-good o₂ n h eo en = rw (← e, le-ltb (length o) need h) (ap₂ (cipherDone (given need)) eo en)
 
--- ---- a buffer written twice
-
-pub over : (o s t : List ℕ) → length s ≡ length t → write (write o 0 s) 0 t ≡ write o 0 t
-unfolding write
-over o s t e =
-    ap (λ (r : List ℕ). t ++ r)
-    (ap (λ (n : ℕ). drop (0 + n) (s ++ drop (0 + length s) o)) (sym e) ∙ drop-at s (drop (0 + length s) o) (0 + length s) (omega arith) ∙ ap (λ (n : ℕ). drop (0 + n) o) e)
-
+-- a byte set in what was written
 set-over : (o s : List ℕ) (i v : ℕ) → i < length s → set (write o 0 s) i v ≡ write o 0 (set s i v)
 unfolding write
 set-over o s i v h = set-append-left s (drop (0 + length s) o) i v h ∙ ap (λ (n : ℕ). set s i v ++ drop (0 + n) o) (sym (length-set s i v))
@@ -91,7 +84,7 @@ module _ (k v c o : List ℕ) where
     unfolding opened openedInto wiped text
     decrypt-bad j vs e =
         ap (λ (x : List ℕ). cipherDone (refused 14 []) x n)
-        (ap (λ (x : List ℕ). write x 0 (zeros (length c))) w ∙ over o text (zeros (length c)) (m ∙ sym (length-replicate {A = ℕ} (length c) 0)))
+        (ap (λ (x : List ℕ). write x 0 (zeros (length c))) w ∙ write-over o text (zeros (length c)) (m ∙ sym (length-replicate {A = ℕ} (length c) 0)))
         ∙ sym (decrypt-from _ h (reveal-blocks (refused 14 []) (unpad-refused text j vs (sym e))))
 
     pub decrypt-good : (j : ℕ) → given j ≡ unpad (flat (decRun k v (blocks c) .out)) → cipherDone (given j) (set o₁ j 0) n ≡ decryptOf k v c o

@@ -1,6 +1,6 @@
 -- A list over the whole of another, and over a part that was lent and came back.
 -- Assumes nothing.
-use mathlib.Core.Path.{_≡_, sym, ap, ap₂, _∙_}
+use mathlib.Core.Path.{_≡_, sym, ap, _∙_}
 use mathlib.Core.List.{List, _++_, append-assoc, append-nil}
 use Prim.Native.Nat.{ℕ, _+_}
 use native.Mathlib.Omega.{arith}
@@ -21,7 +21,4 @@ part-write o at n y e =
 
 -- the front came back as y
 pub front-write : (o h y : List ℕ) (n : ℕ) → y ≡ h → n ≡ length h → y ++ drop n o ≡ write o 0 h
-unfolding write
-front-write o h y n e l =
-    let m : n ≡ 0 + length h = omega arith in
-    ap₂ (λ (x : List ℕ) (k : ℕ). x ++ drop k o) e m
+front-write o h y n e l = part-write o 0 n y (ap length e ∙ sym l) ∙ ap (write o 0) e

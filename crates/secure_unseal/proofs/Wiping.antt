@@ -16,10 +16,10 @@ use Rattle.laws.proofs.ByteLists.{bytes-take, bytes-drop}
 use Rattle.laws.specs.Blocks.{Block, Blocks, blocks, flat}
 use Rattle.laws.proofs.BlockLists.{block-xorl, length-blocks, length-flat, blocks-blocks, block-compl}
 use Rattle.laws.proofs.Lists.{part-length}
+use Rattle.laws.proofs.Overwrite.{write-over}
 use Rattle.aes.proofs.Laws.{D-block}
 use Rattle.aes.specs.Cipher.{D}
 use Rattle.secure_cipher.specs.Cbc.{Done, Opening, decRun, reveal, decryptOf, openedInto, wiped, laid}
-use Rattle.secure_cipher.proofs.CbcCalls.{over}
 use Rattle.secure_cipher.proofs.CbcLaws.{dec-steps}
 use Rattle.secure_cipher.proofs.MacLaws.{mac-steps}
 use Rattle.secure_cipher.proofs.PadLaws.{unpad-less}
@@ -83,7 +83,7 @@ module _ (k v c : List ℕ) (hk : Block k) (hv : Block v) (hc : Bytes c) where
   wiped-laid : (o t : List ℕ) (l : ℕ) → Sized (length c) l t → wiped (length c) (laid l (length c) t o) ≡ wiped (length c) o
   unfolding wiped laid
   wiped-laid o t l s =
-      over o (take l t ++ zeros (length c - l)) (zeros (length c))
+      write-over o (take l t ++ zeros (length c - l)) (zeros (length c))
       (length-append (take l t) (zeros (length c - l)) ∙ omega (arith, length-take-le l t (s .less), length-replicate {A = ℕ} (length c - l) 0, length-replicate {A = ℕ} (length c) 0, s .less, s .most))
 
   opened-wiped : (o : List ℕ) (p : Opening) (a : Answer ℕ) (l : ℕ) → a ≡ given l → Sized (length c) l (p .text) → wiped (length c) (openedInto (length c) p a o) ≡ wiped (length c) o

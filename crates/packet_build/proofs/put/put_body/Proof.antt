@@ -6,7 +6,7 @@ use Prim.Native.Nat.{ℕ, _+_, _/_, _%_}
 use borrow.Author.Needs.{needs}
 use native.Mathlib.Omega.{arith}
 use Rattle.laws.specs.Over.{write}
-use Rattle.laws.proofs.Overwrite.{four}
+use Rattle.laws.proofs.Overwrite.{write-four}
 use Rattle.packet_build.specs.Build.{blockBytes, scbGiven, bodyBytes}
 use Rattle.packet_build.proofs.put.put_body.Statement.{statement}
 use Rattle.packet_build.proofs.put.put_body.Tie as tie
@@ -25,7 +25,7 @@ returns c =
       c .before .before .copy-in3 .ensures .1
           ∙ ap (λ (x : List ℕ). write x (k .result + 1) (a .«data» .now))
           (c .before .before .before .before .before .before .copy-in2 .ensures .1 ∙ ap (λ (x : List ℕ). write x (k .result) (a .w .code ∷ [])) (k .ensures .1 ∙ ap (λ (x : List ℕ). write x 5 b) h))
-          ∙ four o _ b _ (a .«data» .now) (k .result) _ refl (k .ensures .0) refl (omega arith),
+          ∙ write-four o _ b _ (a .«data» .now) (k .result) _ refl (k .ensures .0) refl (omega arith),
     )
 
 pub put-body-spec : {M : Type 1} → statement M
