@@ -120,36 +120,30 @@ pub ruleset products = (times2, times3, times9, times11, times13, times14, xtime
 ruleset cancelling = (sums, ⊕-self, ⊕-back, no-terms)
 
 -- the coefficients of the products of the two matrices, one way and the other: 1 and 0
-module _ (v : ℕ) (h : v < 256) (x1 : xtime v < 256) (x2 : xtime (xtime v) < 256) (x3 : xtime (xtime (xtime v)) < 256) where
+module _ (v : ℕ) (h : v < 256) where
   one : 14 • (2 • v) ⊕ 11 • v ⊕ 13 • v ⊕ 9 • (3 • v) ≡ v
-  one = simp products (simp cancelling)
+  one = simp (products, xtime-lt) (simp cancelling)
 
   none1 : 14 • (3 • v) ⊕ 11 • (2 • v) ⊕ 13 • v ⊕ 9 • v ≡ 0
-  none1 = simp products (simp cancelling)
+  none1 = simp (products, xtime-lt) (simp cancelling)
 
   none2 : 14 • v ⊕ 11 • (3 • v) ⊕ 13 • (2 • v) ⊕ 9 • v ≡ 0
-  none2 = simp products (simp cancelling)
+  none2 = simp (products, xtime-lt) (simp cancelling)
 
   none3 : 14 • v ⊕ 11 • v ⊕ 13 • (3 • v) ⊕ 9 • (2 • v) ≡ 0
-  none3 = simp products (simp cancelling)
+  none3 = simp (products, xtime-lt) (simp cancelling)
 
   one-back : 2 • (14 • v) ⊕ 3 • (9 • v) ⊕ 13 • v ⊕ 11 • v ≡ v
-  one-back = simp (products, ⊕-lt) (simp cancelling)
+  one-back = let x₁ = xtime-lt h in let x₂ = xtime-lt x₁ in let x₃ = xtime-lt x₂ in simp (products, ⊕-lt) (simp cancelling)
 
   none1-back : 2 • (11 • v) ⊕ 3 • (14 • v) ⊕ 9 • v ⊕ 13 • v ≡ 0
-  none1-back = simp (products, ⊕-lt) (simp cancelling)
+  none1-back = let x₁ = xtime-lt h in let x₂ = xtime-lt x₁ in let x₃ = xtime-lt x₂ in simp (products, ⊕-lt) (simp cancelling)
 
   none2-back : 2 • (13 • v) ⊕ 3 • (11 • v) ⊕ 14 • v ⊕ 9 • v ≡ 0
-  none2-back = simp (products, ⊕-lt) (simp cancelling)
+  none2-back = let x₁ = xtime-lt h in let x₂ = xtime-lt x₁ in let x₃ = xtime-lt x₂ in simp (products, ⊕-lt) (simp cancelling)
 
   none3-back : 2 • (9 • v) ⊕ 3 • (13 • v) ⊕ 11 • v ⊕ 14 • v ≡ 0
-  none3-back = simp (products, ⊕-lt) (simp cancelling)
-
-xtime-twice-lt : {v : ℕ} → v < 256 → xtime (xtime v) < 256
-xtime-twice-lt h = xtime-lt (xtime-lt h)
-
-xtime-thrice-lt : {v : ℕ} → v < 256 → xtime (xtime (xtime v)) < 256
-xtime-thrice-lt h = xtime-lt (xtime-twice-lt h)
+  none3-back = let x₁ = xtime-lt h in let x₂ = xtime-lt x₁ in let x₃ = xtime-lt x₂ in simp (products, ⊕-lt) (simp cancelling)
 
 -- a byte of MIXCOLUMNS and of INVMIXCOLUMNS, from the one in its place and the three below it
 abbrev pub mixByte : ℕ → ℕ → ℕ → ℕ → ℕ
@@ -170,7 +164,7 @@ unmix-mix a b c d ha hb hc hd =
     (11 • a) (11 • (2 • b)) (11 • (3 • c)) (11 • d)
     (13 • a) (13 • b) (13 • (2 • c)) (13 • (3 • d))
     (9 • (3 • a)) (9 • b) (9 • c) (9 • (2 • d))
-    ∙ ap₂ _⊕_ (ap₂ _⊕_ (ap₂ _⊕_ (one a ha (xtime-lt ha) (xtime-twice-lt ha) (xtime-thrice-lt ha)) (none1 b hb (xtime-lt hb) (xtime-twice-lt hb) (xtime-thrice-lt hb))) (none2 c hc (xtime-lt hc) (xtime-twice-lt hc) (xtime-thrice-lt hc))) (none3 d hd (xtime-lt hd) (xtime-twice-lt hd) (xtime-thrice-lt hd))
+    ∙ ap₂ _⊕_ (ap₂ _⊕_ (ap₂ _⊕_ (one a ha) (none1 b hb)) (none2 c hc)) (none3 d hd)
     ∙ simp no-terms
 
 pub mix-unmix : (a b c d : ℕ) → a < 256 → b < 256 → c < 256 → d < 256
@@ -184,5 +178,5 @@ mix-unmix a b c d ha hb hc hd =
     (3 • (9 • a)) (3 • (14 • b)) (3 • (11 • c)) (3 • (13 • d))
     (13 • a) (9 • b) (14 • c) (11 • d)
     (11 • a) (13 • b) (9 • c) (14 • d)
-    ∙ ap₂ _⊕_ (ap₂ _⊕_ (ap₂ _⊕_ (one-back a ha (xtime-lt ha) (xtime-twice-lt ha) (xtime-thrice-lt ha)) (none1-back b hb (xtime-lt hb) (xtime-twice-lt hb) (xtime-thrice-lt hb))) (none2-back c hc (xtime-lt hc) (xtime-twice-lt hc) (xtime-thrice-lt hc))) (none3-back d hd (xtime-lt hd) (xtime-twice-lt hd) (xtime-thrice-lt hd))
+    ∙ ap₂ _⊕_ (ap₂ _⊕_ (ap₂ _⊕_ (one-back a ha) (none1-back b hb)) (none2-back c hc)) (none3-back d hd)
     ∙ simp no-terms

@@ -8,7 +8,11 @@ use Rattle.ffi.proofs.parse.parsed_c.Statement.{statement}
 use Rattle.ffi.proofs.parse.parsed_c.Tie as tie
 
 returns : tie.Need-returns
-returns c = rw (c .trailer-value .ensures, c .before .is-crc .ensures, c .before .before .mac-start .ensures, c .before .before .before .block-len .ensures, c .before .before .before .before .block-start .ensures, c .before .before .before .before .before .block-type .ensures, c .before .before .before .before .before .before .value .ensures, c .before .before .before .before .before .before .before .as-byte .ensures, c .before .before .before .before .before .before .before .before .given .ensures) (sym (ap cParsed (ap parsed (c .before .before .before .before .before .before .before .before .before .before .a .given .1))))
+returns c =
+    let k = c .before .before .before .before .before in
+    rw (c .trailer-value .ensures, c .before .is-crc .ensures, c .before .before .mac-start .ensures, c .before .before .before .block-len .ensures, c .before .before .before .before .block-start .ensures)
+    (rw (k .block-type .ensures, k .before .value .ensures, k .before .before .as-byte .ensures, k .before .before .before .given .ensures)
+    (sym (ap cParsed (ap parsed (k .before .before .before .before .before .a .given .1)))))
 
 returns-2 : tie.Need-returns-2
 returns-2 c = c .nothing-parsed .ensures ∙ rw (c .before .refused .ensures) (sym (ap cParsed (ap parsed (c .before .before .before .a2 .given .1))))

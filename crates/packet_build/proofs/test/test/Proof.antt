@@ -14,23 +14,35 @@ use Rattle.packet_build.proofs.Tests.{encode-refused, refused-3, refuse
 use Rattle.packet_build.proofs.test.test.Statement.{statement}
 use Rattle.packet_build.proofs.test.test.Tie as tie
 
+-- ---- where the code stands once a test has passed, from where it stands after the next one
+
+abbrev encoded : tie.Else1 → tie.After-b
+encoded d = d .before .before .before
+
+abbrev flagged : tie.Else2 → tie.Else1
+flagged m = m .before .before
+
+abbrev fitted : tie.After-trailer-len → tie.Else2
+fitted s = s .before .before .before
+
+-- ---- what each test leaves to the next
+
 -- the control byte is b
 coded : (c : tie.After-b) → given (c .b .given .0 .0) ≡ encodeOf (control (c .before .before .before .args .ctrl))
 coded c = sym (ap encodedAnswer (c .b .given .1)) ∙ c .before .before .encode .ensures
 
 -- the block and the flag agree
-agree : (c : tie.Else1) → differ (c .before .before .before .before .before .before .args .there) (c .before .before .before .before .before .before .args .ctrl .block) ≡ false
-agree c = sym (c .before .differ .ensures) ∙ c .if1 .left
+agree : (d : tie.Else1) → let a = d .before .before .before .before .before .before .args in differ (a .there) (a .ctrl .block) ≡ false
+agree d = sym (d .before .differ .ensures) ∙ d .if1 .left
 
 -- there is a MAC exactly where one is due
-right-mac : (c : tie.Else2) → c .before .before .before .before .before .before .before .before .args .mac ≡ macLen (c .before .before .before .before .before .before .before .before .args .due)
-right-mac c = omega arith
+right-mac : (m : tie.Else2) → let a = m .before .before .before .before .before .before .before .before .args in a .mac ≡ macLen (a .due)
+right-mac m = omega arith
 
 -- what the code adds up is the paper's total
-summed : (c : tie.After-trailer-len)
-    → 6 + c .before .if-on2 .result + c .before .before .before .before .before .before .before .before .before .before .before .args .block + c .before .before .before .before .before .before .before .before .before .before .before .args .body + c .before .before .before .before .before .before .before .before .before .before .before .args .mac + c .trailer-len .result
-    ≡ totalN (c .before .before .before .before .before .before .before .before .before .before .before .args .ctrl .crc) (c .before .before .before .before .before .before .before .before .before .before .before .args .there) (c .before .before .before .before .before .before .before .before .before .before .before .args .mac) (c .before .before .before .before .before .before .before .before .before .before .before .args .block) (c .before .before .before .before .before .before .before .before .before .before .before .args .body)
-summed c = omega arith
+summed : (s : tie.After-trailer-len) → let a = s .before .before .before .before .before .before .before .before .before .before .before .args in
+    6 + s .before .if-on2 .result + a .block + a .body + a .mac + s .trailer-len .result ≡ totalN (a .ctrl .crc) (a .there) (a .mac) (a .block) (a .body)
+summed s = omega arith
 
 returns : tie.Need-returns
 returns c = encode-refused _ _ _ _ _ _ _ (c .before .e .given .0 .0) (sym (ap encodedAnswer (c .before .e .given .1)) ∙ c .before .before .before .encode .ensures)
@@ -39,28 +51,41 @@ returns-2 : tie.Need-returns-2
 returns-2 c = refused-3 _ _ _ _ _ _ _ _ (coded (c .before .before .before)) (sym (c .before .differ .ensures) ∙ c .if1 .taken)
 
 returns-3 : tie.Need-returns-3
-returns-3 c = refused-11 _ _ _ _ _ _ _ _ (coded (c .before .before .before .before .before)) (agree (c .before .before)) (λ e. omega arith)
+returns-3 c =
+    let d = c .before .before in
+    refused-11 _ _ _ _ _ _ _ _ (coded (encoded d)) (agree d) (λ e. omega arith)
 
 returns-4 : tie.Need-returns-4
-returns-4 c = refused-17 _ _ _ _ _ _ _ _ (coded (c .before .before .before .before .before .before)) (agree (c .before .before .before)) (right-mac (c .before)) (omega arith)
+returns-4 c =
+    let m = c .before in
+    let d = flagged m in
+    refused-17 _ _ _ _ _ _ _ _ (coded (encoded d)) (agree d) (right-mac m) (omega arith)
 
 returns-5 : tie.Need-returns-5
 returns-5 c =
-    let t = summed (c .before) in
-    ap (λ (n : ℕ). refused 12 (n ∷ 65535 ∷ [])) t
-    ∙ refused-12 _ _ _ _ _ _ _ _ (coded (c .before .before .before .before .before .before .before .before .before)) (agree (c .before .before .before .before .before .before)) (right-mac (c .before .before .before .before)) (omega arith) (omega arith)
+    let s = c .before in
+    let t = summed s in
+    let m = fitted s in
+    let d = flagged m in
+    ap (λ (n : ℕ). refused 12 (n ∷ 65535 ∷ [])) t ∙ refused-12 _ _ _ _ _ _ _ _ (coded (encoded d)) (agree d) (right-mac m) (omega arith) (omega arith)
 
 returns-6 : tie.Need-returns-6
 returns-6 c =
-    let t = summed (c .before .before) in
-    ap (λ (n : ℕ). refused 18 (n ∷ c .before .before .before .before .before .before .before .before .before .before .before .before .before .args .have ∷ [])) t
-    ∙ refused-18 _ _ _ _ _ _ _ _ (coded (c .before .before .before .before .before .before .before .before .before .before)) (agree (c .before .before .before .before .before .before .before)) (right-mac (c .before .before .before .before .before)) (omega arith) (omega arith) (omega arith)
+    let s = c .before .before in
+    let t = summed s in
+    let m = fitted s in
+    let d = flagged m in
+    ap (λ (n : ℕ). refused 18 (n ∷ s .before .before .before .before .before .before .before .before .before .before .before .args .have ∷ [])) t
+    ∙ refused-18 _ _ _ _ _ _ _ _ (coded (encoded d)) (agree d) (right-mac m) (omega arith) (omega arith) (omega arith)
 
 returns-7 : tie.Need-returns-7
 returns-7 c =
-    let t = summed (c .before .before) in
-    ap (λ (n : ℕ). given (n, c .before .before .before .before .before .before .before .before .before .before .b .given .0 .0)) t
-    ∙ all-passed _ _ _ _ _ _ _ _ (coded (c .before .before .before .before .before .before .before .before .before .before)) (agree (c .before .before .before .before .before .before .before)) (right-mac (c .before .before .before .before .before)) (omega arith) (omega arith) (omega arith)
+    let s = c .before .before in
+    let t = summed s in
+    let m = fitted s in
+    let d = flagged m in
+    ap (λ (n : ℕ). given (n, encoded d .b .given .0 .0)) t
+    ∙ all-passed _ _ _ _ _ _ _ _ (coded (encoded d)) (agree d) (right-mac m) (omega arith) (omega arith) (omega arith)
 
 pub test-spec : {M : Type 1} → statement M
 test-spec =
