@@ -133,6 +133,7 @@ module _ (v : ℕ) (h : v < 256) where
   none3 : 14 • v ⊕ 11 • v ⊕ 13 • (3 • v) ⊕ 9 • (2 • v) ≡ 0
   none3 = simp (products, xtime-lt) (simp cancelling)
 
+  -- the way back: `simp` looks for the bounds of x v, x x v and x x x v among what is bound
   one-back : 2 • (14 • v) ⊕ 3 • (9 • v) ⊕ 13 • v ⊕ 11 • v ≡ v
   one-back = let x₁ = xtime-lt h in let x₂ = xtime-lt x₁ in let x₃ = xtime-lt x₂ in simp (products, ⊕-lt) (simp cancelling)
 

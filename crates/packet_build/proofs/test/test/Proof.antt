@@ -22,8 +22,8 @@ encoded d = d .before .before .before
 abbrev flagged : tie.Else2 → tie.Else1
 flagged m = m .before .before
 
-abbrev fitted : tie.After-trailer-len → tie.Else2
-fitted s = s .before .before .before
+abbrev mac-matched : tie.After-trailer-len → tie.Else2
+mac-matched s = s .before .before .before
 
 -- ---- what each test leaves to the next
 
@@ -65,7 +65,7 @@ returns-5 : tie.Need-returns-5
 returns-5 c =
     let s = c .before in
     let t = summed s in
-    let m = fitted s in
+    let m = mac-matched s in
     let d = flagged m in
     ap (λ (n : ℕ). refused 12 (n ∷ 65535 ∷ [])) t ∙ refused-12 _ _ _ _ _ _ _ _ (coded (encoded d)) (agree d) (right-mac m) (omega arith) (omega arith)
 
@@ -73,7 +73,7 @@ returns-6 : tie.Need-returns-6
 returns-6 c =
     let s = c .before .before in
     let t = summed s in
-    let m = fitted s in
+    let m = mac-matched s in
     let d = flagged m in
     ap (λ (n : ℕ). refused 18 (n ∷ s .before .before .before .before .before .before .before .before .before .before .before .args .have ∷ [])) t
     ∙ refused-18 _ _ _ _ _ _ _ _ (coded (encoded d)) (agree d) (right-mac m) (omega arith) (omega arith) (omega arith)
@@ -82,7 +82,7 @@ returns-7 : tie.Need-returns-7
 returns-7 c =
     let s = c .before .before in
     let t = summed s in
-    let m = fitted s in
+    let m = mac-matched s in
     let d = flagged m in
     ap (λ (n : ℕ). given (n, encoded d .b .given .0 .0)) t
     ∙ all-passed _ _ _ _ _ _ _ _ (coded (encoded d)) (agree d) (right-mac m) (omega arith) (omega arith) (omega arith)
