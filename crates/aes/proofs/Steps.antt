@@ -13,11 +13,12 @@ use Rattle.laws.specs.Bytes.{Bytes}
 use Rattle.laws.specs.Blocks.{Block}
 use Rattle.laws.proofs.Listed.{length-blockOf, getD-blockOf, block-listed}
 use Rattle.aes_field.specs.Field.{_⊕_}
+use Rattle.aes_field.specs.Mix.{mixByte, invMixByte}
 use Rattle.aes_field.specs.Sbox.{SBOX, INVSBOX}
 use Rattle.aes_field.proofs.Sums.{⊕-cancel, ⊕-lt}
-use Rattle.aes_field.proofs.Linear.{mixByte, unmixByte, unmix-mix, mix-unmix, •-lt}
+use Rattle.aes_field.proofs.Linear.{unmix-mix, mix-unmix, •-lt}
 use Rattle.aes_field.proofs.Tables.{SBOX-lt, INVSBOX-lt, SBOX-undone, INVSBOX-undone}
-use Rattle.aes.specs.State.{subBytes, shiftRows, invShiftRows, below, mixColumns, invMixColumns, addRoundKey}
+use Rattle.aes.specs.State.{subBytes, shiftRows, invShiftRows, below, mixedBy, mixColumns, invMixColumns, addRoundKey}
 
 same-block : (f g : ℕ → ℕ) → ((i : ℕ) → i < 16 → f i ≡ g i) → blockOf f ≡ blockOf g
 same-block f g e =
@@ -102,10 +103,6 @@ add-back s w r b =
 cons : {x y : ℕ} {xs ys : List ℕ} → x ≡ y → xs ≡ ys → x ∷ xs ≡ y ∷ ys
 cons p q = λ i. p i ∷ q i
 
--- each byte made by f from its own and the three below it in its column
-abbrev mixedBy : (ℕ → ℕ → ℕ → ℕ → ℕ) → List ℕ → List ℕ
-mixedBy f s = blockOf (λ i. f (below s i 0) (below s i 1) (below s i 2) (below s i 3))
-
 -- what g did to a column f undoes: so they do to the sixteen bytes
 columns-back : (f g : ℕ → ℕ → ℕ → ℕ → ℕ) (s : List ℕ)
     → ((p q r t : ℕ) → (let a : ℕ → ℕ = λ i. getD s i 0 in f (g (a p) (a q) (a r) (a t)) (g (a q) (a r) (a t) (a p)) (g (a r) (a t) (a p) (a q)) (g (a t) (a p) (a q) (a r)) ≡ a p))
@@ -133,11 +130,11 @@ columns-back f g s h =
 pub mix-back : (s : List ℕ) → Block s → invMixColumns (mixColumns s) ≡ s
 unfolding mixColumns invMixColumns
 mix-back s b =
-    columns-back unmixByte mixByte s (λ p q r t. unmix-mix (getD s p 0) (getD s q 0) (getD s r 0) (getD s t 0) (b .bytes p) (b .bytes q) (b .bytes r) (b .bytes t))
+    columns-back invMixByte mixByte s (λ p q r t. unmix-mix (getD s p 0) (getD s q 0) (getD s r 0) (getD s t 0) (b .bytes p) (b .bytes q) (b .bytes r) (b .bytes t))
     ∙ block-listed s (b .size)
 
 pub unmix-back : (s : List ℕ) → Block s → mixColumns (invMixColumns s) ≡ s
 unfolding mixColumns invMixColumns
 unmix-back s b =
-    columns-back mixByte unmixByte s (λ p q r t. mix-unmix (getD s p 0) (getD s q 0) (getD s r 0) (getD s t 0) (b .bytes p) (b .bytes q) (b .bytes r) (b .bytes t))
+    columns-back mixByte invMixByte s (λ p q r t. mix-unmix (getD s p 0) (getD s q 0) (getD s r 0) (getD s t 0) (b .bytes p) (b .bytes q) (b .bytes r) (b .bytes t))
     ∙ block-listed s (b .size)

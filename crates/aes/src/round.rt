@@ -6,7 +6,7 @@ ghost use mathlib.Core.List.{_++_};
 ghost use Prim.Native.Nat.{_≤_, _%_};
 ghost use lib.ListN.{getD};
 ghost use Rattle.laws.specs.Bytes.{xorl};
-ghost use Rattle.aes_field.specs.Field.{_⊕_, _•_};
+ghost use Rattle.aes_field.specs.Mix.{mixByte, invMixByte};
 ghost use Rattle.aes_field.specs.Packed.{unpacked, columns};
 ghost use Rattle.aes.specs.Halves.{subShift, unshiftSub, part};
 
@@ -85,7 +85,7 @@ pub(crate) fn second(s: [u8; 16], w: &[u8; 176], at: usize) -> u64
 // A round of Cipher, with the half of its round key from `at` on.
 pub(crate) fn round(t: &[u8; 256], w: &[u8; 176], at: usize, x: u64, y: u64) -> u64
     requires { ⌜ at ≤ 168 ⌝ }
-    ensures { λ r. ⌜ unpacked 8 r ≡ xorl (columns (λ a b c d. 2 • a ⊕ 3 • b ⊕ c ⊕ d) (subShift (now (t .entry)) (unpacked 8 x) (unpacked 8 y))) (part (now (w .entry)) at) ⌝ }
+    ensures { λ r. ⌜ unpacked 8 r ≡ xorl (columns mixByte (subShift (now (t .entry)) (unpacked 8 x) (unpacked 8 y))) (part (now (w .entry)) at) ⌝ }
 {
     field::mix(substitute(t, x, y)) ^ key(w, at)
 }
@@ -101,7 +101,7 @@ pub(crate) fn last(t: &[u8; 256], w: &[u8; 176], at: usize, x: u64, y: u64) -> u
 // A round of InvCipher.
 pub(crate) fn unround(t: &[u8; 256], w: &[u8; 176], at: usize, x: u64, y: u64) -> u64
     requires { ⌜ at ≤ 168 ⌝ }
-    ensures { λ r. ⌜ unpacked 8 r ≡ columns (λ a b c d. 14 • a ⊕ 11 • b ⊕ 13 • c ⊕ 9 • d) (xorl (unshiftSub (now (t .entry)) (unpacked 8 x) (unpacked 8 y)) (part (now (w .entry)) at)) ⌝ }
+    ensures { λ r. ⌜ unpacked 8 r ≡ columns invMixByte (xorl (unshiftSub (now (t .entry)) (unpacked 8 x) (unpacked 8 y)) (part (now (w .entry)) at)) ⌝ }
 {
     field::unmix(unsubstitute(t, x, y) ^ key(w, at))
 }

@@ -6,6 +6,7 @@ use native.Mathlib.Omega.{arith}
 use lib.Dec.{lit<}
 use lib.Bits.{xor-shr, xor-mod}
 use Rattle.aes_field.specs.Field.{_⊕_, xtime, bitTimes, bitsTimes, _•_}
+use Rattle.aes_field.specs.Mix.{mixByte, invMixByte}
 use Rattle.laws.proofs.Xor.{bit-ind, xor-shl}
 use Rattle.aes_field.proofs.Sums.{⊕-assoc, ⊕-comm, ⊕-self, zero-⊕, ⊕-zero, ⊕-lt, ⊕-left-comm, ⊕-swap}
 
@@ -68,7 +69,7 @@ pub times14 : (a : ℕ) → 14 • a ≡ xtime a ⊕ (xtime (xtime a) ⊕ xtime 
 unfolding _•_ bitsTimes
 times14 a = simp no-terms
 
-pub mixed : (a b c d : ℕ) → a < 256 → b < 256 → xtime (a ⊕ b) ⊕ b ⊕ c ⊕ d ≡ 2 • a ⊕ 3 • b ⊕ c ⊕ d
+pub mixed : (a b c d : ℕ) → a < 256 → b < 256 → xtime (a ⊕ b) ⊕ b ⊕ c ⊕ d ≡ mixByte a b c d
 mixed a b c d ha hb = simp (times2, times3, xtime-⊕ a b ha hb, sums)
 
 bitTimes-⊕ : (d x y : ℕ) → bitTimes d (x ⊕ y) ≡ bitTimes d x ⊕ bitTimes d y
@@ -134,27 +135,22 @@ module _ (v : ℕ) (h : v < 256) where
   none3 = simp (products, xtime-lt) (simp cancelling)
 
   -- the way back: `simp` looks for the bounds of x v, x x v and x x x v among what is bound
-  one-back : 2 • (14 • v) ⊕ 3 • (9 • v) ⊕ 13 • v ⊕ 11 • v ≡ v
-  one-back = let x₁ = xtime-lt h in let x₂ = xtime-lt x₁ in let x₃ = xtime-lt x₂ in simp (products, ⊕-lt) (simp cancelling)
-
-  none1-back : 2 • (11 • v) ⊕ 3 • (14 • v) ⊕ 9 • v ⊕ 13 • v ≡ 0
-  none1-back = let x₁ = xtime-lt h in let x₂ = xtime-lt x₁ in let x₃ = xtime-lt x₂ in simp (products, ⊕-lt) (simp cancelling)
-
-  none2-back : 2 • (13 • v) ⊕ 3 • (11 • v) ⊕ 14 • v ⊕ 9 • v ≡ 0
-  none2-back = let x₁ = xtime-lt h in let x₂ = xtime-lt x₁ in let x₃ = xtime-lt x₂ in simp (products, ⊕-lt) (simp cancelling)
-
-  none3-back : 2 • (9 • v) ⊕ 3 • (13 • v) ⊕ 11 • v ⊕ 14 • v ≡ 0
-  none3-back = let x₁ = xtime-lt h in let x₂ = xtime-lt x₁ in let x₃ = xtime-lt x₂ in simp (products, ⊕-lt) (simp cancelling)
-
--- a byte of MIXCOLUMNS and of INVMIXCOLUMNS, from the one in its place and the three below it
-abbrev pub mixByte : ℕ → ℕ → ℕ → ℕ → ℕ
-mixByte a b c d = 2 • a ⊕ 3 • b ⊕ c ⊕ d
-
-abbrev pub unmixByte : ℕ → ℕ → ℕ → ℕ → ℕ
-unmixByte a b c d = 14 • a ⊕ 11 • b ⊕ 13 • c ⊕ 9 • d
+  back : (2 • (14 • v) ⊕ 3 • (9 • v) ⊕ 13 • v ⊕ 11 • v ≡ v)
+      × (2 • (11 • v) ⊕ 3 • (14 • v) ⊕ 9 • v ⊕ 13 • v ≡ 0)
+      × (2 • (13 • v) ⊕ 3 • (11 • v) ⊕ 14 • v ⊕ 9 • v ≡ 0)
+      × (2 • (9 • v) ⊕ 3 • (13 • v) ⊕ 11 • v ⊕ 14 • v ≡ 0)
+  back =
+      let x₁ = xtime-lt h in
+      let x₂ = xtime-lt x₁ in
+      let x₃ = xtime-lt x₂ in (
+        simp (products, ⊕-lt) (simp cancelling),
+        simp (products, ⊕-lt) (simp cancelling),
+        simp (products, ⊕-lt) (simp cancelling),
+        simp (products, ⊕-lt) (simp cancelling),
+      )
 
 pub unmix-mix : (a b c d : ℕ) → a < 256 → b < 256 → c < 256 → d < 256
-    → unmixByte (mixByte a b c d) (mixByte b c d a) (mixByte c d a b) (mixByte d a b c) ≡ a
+    → invMixByte (mixByte a b c d) (mixByte b c d a) (mixByte c d a b) (mixByte d a b c) ≡ a
 unmix-mix a b c d ha hb hc hd =
     ap₂ _⊕_ (ap₂ _⊕_ (ap₂ _⊕_
     (•-⊕4 14 (2 • a) (3 • b) c d (•-lt 2 ha) (•-lt 3 hb) hc hd)
@@ -169,7 +165,7 @@ unmix-mix a b c d ha hb hc hd =
     ∙ simp no-terms
 
 pub mix-unmix : (a b c d : ℕ) → a < 256 → b < 256 → c < 256 → d < 256
-    → mixByte (unmixByte a b c d) (unmixByte b c d a) (unmixByte c d a b) (unmixByte d a b c) ≡ a
+    → mixByte (invMixByte a b c d) (invMixByte b c d a) (invMixByte c d a b) (invMixByte d a b c) ≡ a
 mix-unmix a b c d ha hb hc hd =
     ap₂ _⊕_ (ap₂ _⊕_ (ap₂ _⊕_
     (•-⊕4 2 (14 • a) (11 • b) (13 • c) (9 • d) (•-lt 14 ha) (•-lt 11 hb) (•-lt 13 hc) (•-lt 9 hd))
@@ -179,5 +175,5 @@ mix-unmix a b c d ha hb hc hd =
     (3 • (9 • a)) (3 • (14 • b)) (3 • (11 • c)) (3 • (13 • d))
     (13 • a) (9 • b) (14 • c) (11 • d)
     (11 • a) (13 • b) (9 • c) (14 • d)
-    ∙ ap₂ _⊕_ (ap₂ _⊕_ (ap₂ _⊕_ (one-back a ha) (none1-back b hb)) (none2-back c hc)) (none3-back d hd)
+    ∙ ap₂ _⊕_ (ap₂ _⊕_ (ap₂ _⊕_ (back a ha .0) (back b hb .1)) (back c hc .2)) (back d hd .3)
     ∙ simp no-terms

@@ -7,9 +7,10 @@ use lib.Bits.{bitXor}
 use lib.ListN.{getD}
 use Rattle.laws.specs.Bytes.{Bytes, xorl}
 use Rattle.aes_field.specs.Field.{_⊕_, xtime}
+use Rattle.aes_field.specs.Mix.{mixByte, invMixByte}
 use Rattle.aes_field.specs.Packed.{packed, unpacked, columns}
 use Rattle.aes_field.proofs.Sums.{⊕-assoc, ⊕-lt}
-use Rattle.aes_field.proofs.Linear.{mixByte, unmixByte, sums, products, mixed, xtime-⊕, xtime-lt, ⊕-back}
+use Rattle.aes_field.proofs.Linear.{sums, products, mixed, xtime-⊕, xtime-lt, ⊕-back}
 use Rattle.aes_field.proofs.Packing.{eight, eight-bytes, map-bytes, unpacked-xor, unpacked-packed, unpacked-bytes}
 
 -- ---- a byte of each
@@ -21,7 +22,7 @@ twice-twice-⊕ : (a b : ℕ) → a < 256 → b < 256 → xtime (xtime (a ⊕ b)
 twice-twice-⊕ a b p q = ap xtime (xtime-⊕ a b p q) ∙ xtime-⊕ (xtime a) (xtime b) (xtime-lt p) (xtime-lt q)
 
 unmix-byte : (a b c d : ℕ) → a < 256 → b < 256 → c < 256 → d < 256
-    → mixByte (a ⊕ xtime (xtime (a ⊕ c))) (b ⊕ xtime (xtime (b ⊕ d))) (c ⊕ xtime (xtime (c ⊕ a))) (d ⊕ xtime (xtime (d ⊕ b))) ≡ unmixByte a b c d
+    → mixByte (a ⊕ xtime (xtime (a ⊕ c))) (b ⊕ xtime (xtime (b ⊕ d))) (c ⊕ xtime (xtime (c ⊕ a))) (d ⊕ xtime (xtime (d ⊕ b))) ≡ invMixByte a b c d
 unmix-byte a b c d ha hb hc hd =
     let xa : xtime a < 256 = xtime-lt ha in
     let xb : xtime b < 256 = xtime-lt hb in
@@ -86,7 +87,7 @@ module _ (x : ℕ) where
 
   pub unmix-two : (y u v s r : ℕ) → y ≡ packed (columns (λ a b c d. c) l) → u ≡ packed (map xtime (unpacked 8 (bitXor x y)))
       → v ≡ packed (map xtime (unpacked 8 u)) → s ≡ bitXor x v → unpacked 8 r ≡ columns mixByte (unpacked 8 s)
-      → unpacked 8 r ≡ columns unmixByte l
+      → unpacked 8 r ≡ columns invMixByte l
   unfolding unpacked columns xorl _⊕_
   unmix-two y u v s r ey eu ev es er =
       let ys : unpacked 8 y ≡ columns (λ a b c d. c) l = turned (λ a b c d. c) (λ a b c d ha hb hc hd. hc) y x ey in
@@ -94,4 +95,4 @@ module _ (x : ℕ) where
       let us : unpacked 8 u ≡ columns (λ a b c d. xtime (a ⊕ c)) l = doubled u (bitXor x y) eu ∙ ap (map xtime) zs in
       let vs : unpacked 8 v ≡ columns (λ a b c d. xtime (xtime (a ⊕ c))) l = doubled v u ev ∙ ap (map xtime) us in
       let ss : unpacked 8 s ≡ columns (λ a b c d. a ⊕ xtime (xtime (a ⊕ c))) l = ap (unpacked 8) es ∙ unpacked-xor 8 x v ∙ ap (xorl l) vs in
-      er ∙ ap (columns mixByte) ss ∙ columns-same _ unmixByte unmix-byte l (unpacked-bytes 8 x)
+      er ∙ ap (columns mixByte) ss ∙ columns-same _ invMixByte unmix-byte l (unpacked-bytes 8 x)

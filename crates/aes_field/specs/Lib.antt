@@ -1,3 +1,4 @@
 pub mod Field
+pub mod Mix
 pub mod Sbox
 pub mod Packed

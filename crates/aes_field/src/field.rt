@@ -2,7 +2,8 @@
 // byte lowest, so that a sum or a product by x is made for eight bytes at once.
 ghost use mathlib.Core.Path.{_≡_};
 ghost use mathlib.Core.List.{[], _∷_, map};
-ghost use Rattle.aes_field.specs.Field.{_⊕_, xtime, _•_};
+ghost use Rattle.aes_field.specs.Field.{xtime};
+ghost use Rattle.aes_field.specs.Mix.{mixByte, invMixByte};
 ghost use Rattle.aes_field.specs.Packed.{packed, unpacked, columns};
 
 // x times a byte.
@@ -45,7 +46,7 @@ fn turn_two(x: u64) -> u64
 
 // MixColumns of two columns: 02 a + 03 b + c + d is 02 (a + b) + b + (c + d).
 pub fn mix(x: u64) -> u64
-    ensures { λ r. ⌜ unpacked 8 r ≡ columns (λ a b c d. 2 • a ⊕ 3 • b ⊕ c ⊕ d) (unpacked 8 x) ⌝ }
+    ensures { λ r. ⌜ unpacked 8 r ≡ columns mixByte (unpacked 8 x) ⌝ }
 {
     let y = turn_one(x);
     let z = x ^ y;
@@ -54,7 +55,7 @@ pub fn mix(x: u64) -> u64
 
 // InvMixColumns of two columns: each byte and 04 times the sum of it and the one two below it, mixed.
 pub fn unmix(x: u64) -> u64
-    ensures { λ r. ⌜ unpacked 8 r ≡ columns (λ a b c d. 14 • a ⊕ 11 • b ⊕ 13 • c ⊕ 9 • d) (unpacked 8 x) ⌝ }
+    ensures { λ r. ⌜ unpacked 8 r ≡ columns invMixByte (unpacked 8 x) ⌝ }
 {
     mix(x ^ twice_each(twice_each(x ^ turn_two(x))))
 }

@@ -3,9 +3,9 @@
 use mathlib.Core.Path.{ap, ap₂, _∙_}
 use borrow.Author.Needs.{needs}
 use Rattle.laws.specs.Bytes.{xorl}
+use Rattle.aes_field.specs.Mix.{mixByte}
 use Rattle.aes_field.specs.Packed.{columns}
 use Rattle.aes_field.proofs.Packing.{unpacked-xor}
-use Rattle.aes_field.proofs.Linear.{mixByte}
 use Rattle.aes.proofs.round.round.Statement.{statement}
 use Rattle.aes.proofs.round.round.Tie as tie
 
