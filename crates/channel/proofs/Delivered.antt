@@ -24,7 +24,7 @@ use Rattle.secure_session.specs.declared.session.State.{State}
 use Rattle.secure_session.specs.declared.session.State.the-variants.{Secure}
 use Rattle.secure_seal.specs.declared.frame.Direction.{Direction}
 use Rattle.secure_seal.specs.Seal.{Asked, Sealable, dataLenFor, sealedFrame}
-use Rattle.secure_seal.proofs.SealLaws.{stepsFor, type-mac, type-encrypted, length-dataLen, plain-len, hidden-len, plain-data, hidden-data, length-body}
+use Rattle.secure_seal.proofs.SealLaws.{stepsFor, type-mac, type-encrypted, payload-fits, plain-len, hidden-len, plain-data, hidden-data, length-body}
 use Rattle.secure_seal.proofs.SealLaws.{data-alone, body-alone, mac-alone, reads-alone}
 use Rattle.secure_unseal.specs.Unseal.{Place, UnsealRun, unsealRun}
 use Rattle.secure_unseal.specs.Lookup.{payloadShown}
@@ -96,4 +96,4 @@ module _ (k : SessionKeys) (v : List ℕ) (addr sqn : ℕ) (dir : Direction) (co
       ap (λ (n : ℕ). payloadShown false 8 n (frame false) w) (sym (plain-len x)) ∙ plain-shown (frame false) w _ (reads-alone k v (asked false) hk hv h)
       ∙ data-alone k v (asked false) hk hv h ∙ plain-data (k .«s_enc») v x
   shown-eq true h hw =
-      hidden-shown (frame true) w (padData x) (length x) (dataLenFor true x) (omega (arith, length-padData x)) (length-dataLen true x) (hw refl) ∙ padData-front x
+      hidden-shown (frame true) w (padData x) (length x) (dataLenFor true x) (omega (arith, length-padData x)) (payload-fits true x) (hw refl) ∙ padData-front x

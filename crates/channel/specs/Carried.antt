@@ -5,7 +5,8 @@ use mathlib.Core.Bool.{Bool, true}
 use mathlib.Core.List.{List, []}
 use lib.ListN.{length, take}
 use Rattle.laws.specs.Answer.{Answer, Answer.given, Answer.refused}
-use Rattle.packet_build.specs.Build.{FrameBlock.scb, Parts, totalN, buildOf, sized, written}
+use Rattle.laws.specs.Buffer.{sized, written}
+use Rattle.packet_build.specs.Build.{FrameBlock.scb, Parts, totalN, buildOf}
 use Rattle.packet_view.specs.View.{payloadOf}
 
 -- how its sender frames it: any address, sequence number, trailer, block data and code, and the buffer that it is built into

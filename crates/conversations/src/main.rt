@@ -5,10 +5,10 @@ use libc::STDOUT_FILENO;
 use packet_head::Address;
 use packet_head::Sqn;
 use packet_head::SqnAnswer;
-use secure_cipher::LengthAnswer;
+use refusal::LengthAnswer;
+use refusal::Outcome;
 use secure_seal::Direction;
 use secure_seal::Sealed;
-use secure_session::Outcome;
 use secure_session::Session;
 use secure_unseal::PlaceAnswer;
 

@@ -12,7 +12,7 @@ use Rattle.refusal.specs.Paper.{refusalOf, numberOf, valuesOf}
 use Rattle.packet_head.specs.Header.{sqnOf}
 use Rattle.packet_head.specs.declared.header.Address.{Address}
 use Rattle.packet_head.specs.declared.header.Sqn.{Sqn}
-use Rattle.secure_session.specs.declared.session.Outcome.{Outcome}
+use Rattle.refusal.specs.declared.Outcome.{Outcome}
 use Rattle.secure_seal.specs.Seal.{askedOf, frameTest, SealDone, sealOf, sealTold}
 use Rattle.secure_seal.specs.declared.frame.Direction.{Direction}
 use Rattle.secure_seal.specs.declared.frame.Sealed.{Sealed}

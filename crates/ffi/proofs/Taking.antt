@@ -7,22 +7,24 @@ use lib.Dec.{eqb}
 use borrow.Author.Tests.{eqb-true}
 use Rattle.laws.specs.Answer.{Answer, Answer.given, Answer.refused, andThen, choose}
 use Rattle.laws.proofs.Answers.{then-given, then-refused, holds-given, holds-then, holds-choose}
+use Rattle.refusal.specs.declared.Outcome.{Outcome}
 use Rattle.refusal.specs.declared.Refusal.{Refusal}
 use Rattle.refusal.specs.Paper.{refusalOf, numberOf, valuesOf}
+use Rattle.refusal.specs.Reading.{outcomeAnswer}
 use Rattle.secure_keys.specs.declared.crypto.SessionKeys.{SessionKeys}
-use Rattle.secure_cipher.specs.Cbc.{Done}
+use Rattle.secure_cipher.specs.Cbc.{Done, cipherStop}
 use Rattle.secure_session.specs.declared.session.End.{End}
 use Rattle.secure_session.specs.declared.session.State.{State}
 use Rattle.secure_session.specs.declared.session.Session.{Session}
-use Rattle.secure_session.specs.declared.session.Outcome.{Outcome}
 use Rattle.secure_session.specs.declared.session.SteppedBlock.{SteppedBlock}
 use Rattle.secure_session.specs.declared.session.BlockAnswer.{BlockAnswer}
 use Rattle.secure_session.specs.declared.session.KeysAnswer.{KeysAnswer}
 use Rattle.secure_session.specs.Session.{endNumber, stateNumber, wipedOf, fresh}
-use Rattle.secure_session.specs.Handshake.{Step, outcomeAnswer, steppedBlock, blockAnswer, blockBeside}
+use Rattle.secure_session.specs.Handshake.{Step, steppedBlock, blockAnswer, blockBeside}
 use Rattle.secure_session.specs.Channel.{keysAnswer, keysBeside}
 use Rattle.ffi.specs.Ciphers.{cKeys}
-use Rattle.ffi.specs.Sessions.{endArg, stateArg, sessionWith, sessionArg, reading, cSession, cWiped, cYes, cOutcome, cStepped, cSteppedBlock, cBlockAnswer, cKeysAnswer, steppedArg, steppedBlockArg, blockAnswerArg, keysAnswerArg, doneArg, taken, toldBlock, toldAnswer, toldKeys, noStep, noSteppedBlock}
+use Rattle.ffi.specs.Answers.{cYes, cOutcome}
+use Rattle.ffi.specs.Sessions.{endArg, stateArg, sessionWith, sessionArg, reading, cSession, cWiped, cStepped, cSteppedBlock, cBlockAnswer, cKeysAnswer, steppedArg, steppedBlockArg, blockAnswerArg, keysAnswerArg, doneArg, taken, toldBlock, toldAnswer, toldKeys, noStep, noSteppedBlock}
 use Rattle.ffi.specs.declared.answer.CAnswer.{CAnswer}
 use Rattle.ffi.specs.declared.keys.CKeys.{CKeys}
 use Rattle.ffi.specs.declared.session.CSession.{CSession}
@@ -150,7 +152,7 @@ module _ (c : CSession) (r : Taken) (h : taken r ≡ sessionArg c) where
     unfolding keysAnswerArg
     keys-not f = ap cKeysAnswer (sym (then-refused _ _ _ f not-read))
 
-    pub done-not : (o : List ℕ) (f : Session → Done) → record { answer = refusalOf e; out = o; steps = 0 } ≡ doneArg c o f
+    pub done-not : (o : List ℕ) (f : Session → Done) → cipherStop (numberOf e) (valuesOf e) o ≡ doneArg c o f
     unfolding doneArg
     done-not o f = sym (unreadable _ (numberOf e) (valuesOf e) f _ not-read)
 

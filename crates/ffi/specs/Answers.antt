@@ -4,8 +4,10 @@ use Prim.Native.Nat.{ℕ}
 use mathlib.Core.Bool.{false}
 use mathlib.Core.List.{List, [], _∷_}
 use Rattle.laws.specs.Answer.{Answer, Answer.given, Answer.refused}
+use Rattle.refusal.specs.declared.Outcome.{Outcome}
 use Rattle.refusal.specs.declared.Refusal.{Refusal}
 use Rattle.refusal.specs.Paper.{numberOf, valuesOf}
+use Rattle.refusal.specs.Reading.{outcomeAnswer}
 use Rattle.packet_head.specs.Header.{Control}
 use Rattle.ffi.specs.declared.answer.CAnswer.{CAnswer}
 use Rattle.ffi.specs.declared.head.CControl.{CControl}
@@ -31,6 +33,14 @@ cGiven n = record { refusal = 0; a = n; b = 0 }
 abbrev pub cAnswer : Answer ℕ → CAnswer
 cAnswer (given n) = cGiven n
 cAnswer (refused n vs) = cRefused n vs
+
+-- yes, or the refusal; what was given stands beside it
+abbrev pub cYes : {A : Type 0} → Answer A → CAnswer
+cYes (given a) = cGiven 0
+cYes (refused n vs) = cRefused n vs
+
+abbrev pub cOutcome : Outcome → CAnswer
+cOutcome o = cYes (outcomeAnswer {A = Unit {0}} o tt)
 
 abbrev pub cControl : Answer Control → CControl
 cControl (given c) = record { answer = cGiven 0; sqn = c .0; crc = c .1; block = c .2 }

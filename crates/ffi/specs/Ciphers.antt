@@ -2,7 +2,7 @@
 -- Assumes nothing.
 use Rattle.secure_keys.specs.declared.crypto.SessionKeys.{SessionKeys}
 use Rattle.secure_cipher.specs.declared.cipher.Ciphered.{Ciphered}
-use Rattle.secure_cipher.specs.Pad.{lengthAnswer}
+use Rattle.refusal.specs.Reading.{lengthAnswer}
 use Rattle.secure_cipher.specs.Cbc.{Done}
 use Rattle.secure_cipher.specs.Mac.{Mac}
 use Rattle.ffi.specs.Answers.{cAnswer}

@@ -6,24 +6,23 @@ use lib.Dec.{eqb}
 use Rattle.laws.specs.Answer.{Answer, Answer.given, Answer.refused, andThen, choose}
 use Rattle.laws.specs.Bytes.{zeros}
 use Rattle.refusal.specs.Paper.{refusalOf}
+use Rattle.refusal.specs.Reading.{outcomeAnswer}
 use Rattle.refusal.specs.declared.Refusal.{Refusal}
 use Rattle.secure_keys.specs.declared.crypto.SessionKeys.{SessionKeys}
-use Rattle.secure_cipher.specs.Cbc.{Done}
+use Rattle.secure_cipher.specs.Cbc.{Done, cipherStop}
 use Rattle.secure_session.specs.declared.session.End.{End}
 use Rattle.secure_session.specs.declared.session.End.the-variants.{Controller, Reader}
 use Rattle.secure_session.specs.declared.session.State.{State}
 use Rattle.secure_session.specs.declared.session.State.the-variants.{Disconnected, Challenged, Cryptogrammed, Secure}
 use Rattle.secure_session.specs.declared.session.Session.{Session}
-use Rattle.secure_session.specs.declared.session.Outcome.{Outcome}
 use Rattle.secure_session.specs.declared.session.SteppedBlock.{SteppedBlock}
 use Rattle.secure_session.specs.declared.session.BlockAnswer.{BlockAnswer}
 use Rattle.secure_session.specs.declared.session.KeysAnswer.{KeysAnswer}
 use Rattle.secure_session.specs.Session.{endNumber, stateNumber, noKeys}
-use Rattle.secure_session.specs.Handshake.{Step, outcomeAnswer, blockBeside}
+use Rattle.secure_session.specs.Handshake.{Step, blockBeside}
 use Rattle.secure_session.specs.Channel.{keysBeside}
-use Rattle.ffi.specs.Answers.{cGiven, cRefused, cRefusal}
+use Rattle.ffi.specs.Answers.{cRefused, cRefusal, cYes, cOutcome}
 use Rattle.ffi.specs.Ciphers.{cKeys}
-use Rattle.ffi.specs.declared.answer.CAnswer.{CAnswer}
 use Rattle.ffi.specs.declared.keys.CKeys.{CKeys}
 use Rattle.ffi.specs.declared.session.CSession.{CSession}
 use Rattle.ffi.specs.declared.session.CStepped.{CStepped}
@@ -77,11 +76,6 @@ cWiped c =
 
 -- ---- answers
 
--- yes, or the refusal; what was given stands beside it
-abbrev pub cYes : {A : Type 0} → Answer A → CAnswer
-cYes (given a) = cGiven 0
-cYes (refused n vs) = cRefused n vs
-
 abbrev pub cStepped : Step (Unit {0}) → CStepped
 cStepped d = record { answer = cYes (d .answer); session = cSession (d .session) }
 
@@ -111,7 +105,7 @@ keysAnswerArg c f = cKeysAnswer (andThen (sessionArg c) f)
 
 -- `o` is the buffer as it came
 unfoldable pub doneArg : CSession → List ℕ → (Session → Done) → Done
-doneArg c o f = reading (sessionArg c) f (λ n vs. record { answer = refused n vs; out = o; steps = 0 })
+doneArg c o f = reading (sessionArg c) f (λ n vs. cipherStop n vs o)
 
 -- ---- the code's kinds
 
@@ -125,10 +119,6 @@ stateRead (StateRead.Refused e) = refusalOf e
 
 abbrev pub taken : Taken → Answer Session
 taken r = outcomeAnswer (r .outcome) (r .session)
-
-abbrev pub cOutcome : Outcome → CAnswer
-cOutcome Outcome.Done = cGiven 0
-cOutcome (Outcome.Refused e) = cRefusal e
 
 -- as the code has them: what stands beside the outcome is told as it is
 abbrev pub toldBlock : SteppedBlock → CSteppedBlock

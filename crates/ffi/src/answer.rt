@@ -1,6 +1,9 @@
 // An answer as C has it.
 ghost use mathlib.Core.Path.{_≡_};
-ghost use Rattle.ffi.specs.Answers.{cGiven, cRefusal};
+ghost use Rattle.refusal.specs.Reading.{lengthAnswer};
+ghost use Rattle.ffi.specs.Answers.{cGiven, cRefusal, cAnswer, cOutcome};
+use refusal::LengthAnswer;
+use refusal::Outcome;
 use refusal::Refusal;
 
 // 0 and what was asked for, or the refusal's number and what it carries.
@@ -45,5 +48,23 @@ pub(crate) fn refused(e: Refusal) -> CAnswer
         Refusal::WrongState => told(16, 0, 0),
         Refusal::BlockTooLong(n) => told(17, n, 0),
         Refusal::NoRoom { need, have } => told(18, need, have),
+    }
+}
+
+pub(crate) fn length_c(a: LengthAnswer) -> CAnswer
+    ensures { λ r. ⌜ r ≡ cAnswer (lengthAnswer a) ⌝ }
+{
+    match a {
+        LengthAnswer::Of(n) => given(n),
+        LengthAnswer::Refused(e) => refused(e),
+    }
+}
+
+pub(crate) fn outcome_c(o: Outcome) -> CAnswer
+    ensures { λ r. ⌜ r ≡ cOutcome o ⌝ }
+{
+    match o {
+        Outcome::Done => given(0),
+        Outcome::Refused(e) => refused(e),
     }
 }

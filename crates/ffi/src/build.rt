@@ -1,14 +1,14 @@
 // Building a frame.
 ghost use mathlib.Core.Path.{_≡_};
 ghost use lib.ListN.{length};
-ghost use Rattle.packet_build.specs.Build.{built, sized, written, macBytes};
+ghost use Rattle.laws.specs.Buffer.{sized, written};
+ghost use Rattle.packet_build.specs.Build.{macBytes};
 ghost use Rattle.ffi.specs.Answers.{cAnswer};
 ghost use Rattle.ffi.specs.Building.{macArg, buildArg, bodyArg, KindMeets, AskedMeets};
 use super::answer::CAnswer;
-use super::answer::given;
+use super::answer::length_c;
 use super::answer::refused;
 use packet_build::BuildBlock;
-use packet_build::Built;
 use packet_build::GivenMac;
 use packet_build::PacketBuilder;
 use packet_head::Address;
@@ -88,15 +88,6 @@ fn mac_of(m: CMac) -> GivenMac
     }
 }
 
-fn built_c(b: Built) -> CAnswer
-    ensures { λ r. ⌜ r ≡ cAnswer (built b) ⌝ }
-{
-    match b {
-        Built::Done(n) => given(n),
-        Built::Refused(e) => refused(e),
-    }
-}
-
 // The frame into out; the answer is how many bytes it has.
 #[no_mangle]
 pub extern "C" fn malstrink_build(
@@ -110,7 +101,7 @@ pub extern "C" fn malstrink_build(
     ensures { λ _. ⌜ now (out .exit) ≡ written (buildArg p (now (block .entry)) (now («data» .entry)) (macArg mac) (length (now (out .entry)))) (now (out .entry)) ⌝ }
 {
     match ask(p) {
-        AskedPacket::Good(w) => built_c(packet_build::build(w, block, data, mac_of(mac), out)),
+        AskedPacket::Good(w) => length_c(packet_build::build(w, block, data, mac_of(mac), out)),
         AskedPacket::Refused(e) => refused(e),
     }
 }
@@ -127,7 +118,7 @@ pub extern "C" fn malstrink_build_body(
     ensures { λ _. ⌜ now (out .exit) ≡ written (bodyArg p (now (block .entry)) (now («data» .entry)) (length (now (out .entry)))) (now (out .entry)) ⌝ }
 {
     match ask(p) {
-        AskedPacket::Good(w) => built_c(packet_build::build_body(w, block, data, out)),
+        AskedPacket::Good(w) => length_c(packet_build::build_body(w, block, data, out)),
         AskedPacket::Refused(e) => refused(e),
     }
 }

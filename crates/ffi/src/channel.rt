@@ -5,6 +5,7 @@ ghost use Rattle.secure_session.specs.Channel.{makeMac, verifyOf, keysOf, lastO
 ghost use Rattle.ffi.specs.Ciphers.{cDone};
 ghost use Rattle.ffi.specs.Sessions.{steppedArg, steppedBlockArg, blockAnswerArg, keysAnswerArg, doneArg, cKeysAnswer, toldKeys, noCiphered};
 use super::answer::CAnswer;
+use super::answer::outcome_c;
 use super::answer::refused;
 use super::cipher::CCiphered;
 use super::cipher::ciphered_c;
@@ -19,13 +20,12 @@ use super::session::block_answer_c;
 use super::session::no_block;
 use super::session::no_step;
 use super::session::no_stepped_block;
-use super::session::outcome_c;
 use super::session::stepped_block_c;
 use super::session::stepped_c;
 use super::session::take;
+use refusal::Outcome;
 use refusal::Refusal;
 use secure_session::KeysAnswer;
-use secure_session::Outcome;
 
 // Beside a refusal the keys are zeros.
 #[repr(C)]

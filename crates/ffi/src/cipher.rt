@@ -1,17 +1,17 @@
 // Padding, the chain MAC, and CBC into a buffer that the caller lends.
 ghost use mathlib.Core.Path.{_≡_};
+ghost use lib.ListN.{length};
 ghost use Rattle.laws.specs.Bytes.{compl};
-ghost use Rattle.secure_cipher.specs.Pad.{padMac, padData, unpad, roomFor, paddedInto, lengthAnswer};
+ghost use Rattle.laws.specs.Buffer.{sized, written};
+ghost use Rattle.secure_cipher.specs.Pad.{padMac, padData, unpad, fitting};
 ghost use Rattle.secure_cipher.specs.Cbc.{encryptOf, decryptOf};
 ghost use Rattle.secure_cipher.specs.Mac.{macOf};
 ghost use Rattle.ffi.specs.Answers.{cAnswer};
 ghost use Rattle.ffi.specs.Ciphers.{cCiphered, cDone, cChain};
 use super::answer::CAnswer;
-use super::answer::given;
-use super::answer::refused;
+use super::answer::length_c;
 use super::keys::Bytes16;
 use secure_cipher::Ciphered;
-use secure_cipher::LengthAnswer;
 
 // How many bytes, and how often the cipher was called.
 #[repr(C)]
@@ -26,15 +26,6 @@ pub struct CChain {
     pub calls: usize,
 }
 
-pub(crate) fn length_c(a: LengthAnswer) -> CAnswer
-    ensures { λ r. ⌜ r ≡ cAnswer (lengthAnswer a) ⌝ }
-{
-    match a {
-        LengthAnswer::Of(n) => given(n),
-        LengthAnswer::Refused(e) => refused(e),
-    }
-}
-
 pub(crate) fn ciphered_c(c: Ciphered) -> CCiphered
     ensures { λ r. ⌜ r ≡ cCiphered c ⌝ }
 {
@@ -47,16 +38,16 @@ pub(crate) fn ciphered_c(c: Ciphered) -> CCiphered
 
 #[no_mangle]
 pub extern "C" fn malstrink_pad_mac(data: &[u8], out: &mut [u8]) -> CAnswer
-    ensures { λ r. ⌜ r ≡ cAnswer (roomFor (padMac (now («data» .entry))) (now (out .entry))) ⌝ }
-    ensures { λ _. ⌜ now (out .exit) ≡ paddedInto (roomFor (padMac (now («data» .entry))) (now (out .entry))) (padMac (now («data» .entry))) (now (out .entry)) ⌝ }
+    ensures { λ r. ⌜ r ≡ cAnswer (sized (fitting (padMac (now («data» .entry))) (length (now (out .entry))))) ⌝ }
+    ensures { λ _. ⌜ now (out .exit) ≡ written (fitting (padMac (now («data» .entry))) (length (now (out .entry)))) (now (out .entry)) ⌝ }
 {
     length_c(secure_cipher::pad_mac(data, out))
 }
 
 #[no_mangle]
 pub extern "C" fn malstrink_pad_data(data: &[u8], out: &mut [u8]) -> CAnswer
-    ensures { λ r. ⌜ r ≡ cAnswer (roomFor (padData (now («data» .entry))) (now (out .entry))) ⌝ }
-    ensures { λ _. ⌜ now (out .exit) ≡ paddedInto (roomFor (padData (now («data» .entry))) (now (out .entry))) (padData (now («data» .entry))) (now (out .entry)) ⌝ }
+    ensures { λ r. ⌜ r ≡ cAnswer (sized (fitting (padData (now («data» .entry))) (length (now (out .entry))))) ⌝ }
+    ensures { λ _. ⌜ now (out .exit) ≡ written (fitting (padData (now («data» .entry))) (length (now (out .entry)))) (now (out .entry)) ⌝ }
 {
     length_c(secure_cipher::pad_data(data, out))
 }

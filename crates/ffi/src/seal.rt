@@ -4,25 +4,26 @@ ghost use Rattle.secure_seal.specs.Core.{refusedWith};
 ghost use Rattle.secure_seal.specs.Seal.{sealOf, sealTold};
 ghost use Rattle.secure_unseal.specs.Unseal.{placeAnswer};
 ghost use Rattle.secure_unseal.specs.Lookup.{shownTest};
-ghost use Rattle.ffi.specs.Sessions.{cSession, cYes};
+ghost use Rattle.ffi.specs.Answers.{cYes};
+ghost use Rattle.ffi.specs.Sessions.{cSession};
 ghost use Rattle.ffi.specs.Sealing.{directionArg, askedArg, sealArg, unsealArg, cUnsealed, toldSealed};
 use super::answer::CAnswer;
 use super::answer::given;
+use super::answer::length_c;
+use super::answer::outcome_c;
 use super::answer::refused;
-use super::cipher::length_c;
 use super::session::CSession;
 use super::session::session_c;
 use super::session::take;
 use packet_head::Address;
 use packet_head::Sqn;
 use packet_head::SqnAnswer;
+use refusal::LengthAnswer;
+use refusal::Outcome;
 use refusal::Refusal;
-use secure_cipher::LengthAnswer;
 use secure_seal::Direction;
 use secure_seal::Sealed;
-use secure_session::Outcome;
 use secure_session::Session;
-use secure_unseal::PayloadTest;
 use secure_unseal::PlaceAnswer;
 use secure_unseal::Unsealed;
 
@@ -184,8 +185,5 @@ pub extern "C" fn malstrink_payload_test(
 ) -> CAnswer
     ensures { λ r. ⌜ r ≡ cYes (shownTest «in_work» start len (now (frame .entry)) (now (work .entry))) ⌝ }
 {
-    match secure_unseal::payload_test(frame, work, in_work, start, len) {
-        PayloadTest::Fits => given(0),
-        PayloadTest::Refused(e) => refused(e),
-    }
+    outcome_c(secure_unseal::payload_test(frame, work, in_work, start, len))
 }

@@ -5,19 +5,19 @@ ghost use Rattle.refusal.specs.Paper.{refusalOf};
 ghost use Rattle.secure_session.specs.declared.session.End.the-variants.{Controller, Reader};
 ghost use Rattle.secure_session.specs.Session.{fresh};
 ghost use Rattle.secure_session.specs.Handshake.{challengeOf, receiveCcryptOf, serverCryptogramOf, initialRmacOf, confirmOf, receiveChallengeOf, receiveScryptOf, stepped};
-ghost use Rattle.ffi.specs.Sessions.{endArg, stateArg, sessionWith, sessionArg, endRead, stateRead, taken, cSession, cWiped, cOutcome, cStepped, cBlockAnswer, toldBlock, toldAnswer, noStep, noSteppedBlock, steppedArg, steppedBlockArg, blockAnswerArg};
+ghost use Rattle.ffi.specs.Sessions.{endArg, stateArg, sessionWith, sessionArg, endRead, stateRead, taken, cSession, cWiped, cStepped, cBlockAnswer, toldBlock, toldAnswer, noStep, noSteppedBlock, steppedArg, steppedBlockArg, blockAnswerArg};
 use super::answer::CAnswer;
-use super::answer::given;
+use super::answer::outcome_c;
 use super::answer::refused;
 use super::keys::Bytes8;
 use super::keys::Bytes16;
 use super::keys::CKeys;
 use super::keys::keys_c;
+use refusal::Outcome;
 use refusal::Refusal;
 use secure_keys::SessionKeys;
 use secure_session::BlockAnswer;
 use secure_session::End;
-use secure_session::Outcome;
 use secure_session::Session;
 use secure_session::State;
 use secure_session::Stepped;
@@ -178,15 +178,6 @@ pub(crate) fn session_c(s: Session) -> CSession
 }
 
 // ---- answers
-
-pub(crate) fn outcome_c(o: Outcome) -> CAnswer
-    ensures { λ r. ⌜ r ≡ cOutcome o ⌝ }
-{
-    match o {
-        Outcome::Done => given(0),
-        Outcome::Refused(e) => refused(e),
-    }
-}
 
 pub(crate) fn stepped_c(r: Stepped) -> CStepped
     ensures { λ t. ⌜ t ≡ cStepped (stepped r) ⌝ }

@@ -3,10 +3,10 @@ use libc::STDOUT_FILENO;
 use packet::Address;
 use packet::Parsed;
 use packet::Sqn;
+use refusal::LengthAnswer;
+use refusal::Outcome;
 use refusal::Refusal;
 use secure::Direction;
-use secure::LengthAnswer;
-use secure::Outcome;
 use secure::PlaceAnswer;
 use secure::Session;
 

@@ -3,3 +3,4 @@ pub mod Bytes
 pub mod Blocks
 pub mod Table
 pub mod Over
+pub mod Buffer

@@ -1,6 +1,5 @@
 // Everything of a frame, under one name: reading it, viewing it, building it, and its small kinds.
 pub use packet_build::BuildBlock;
-pub use packet_build::Built;
 pub use packet_build::GivenMac;
 pub use packet_build::PacketBuilder;
 pub use packet_build::build;
@@ -33,7 +32,6 @@ pub use packet_sums::crc16_le;
 pub use packet_view::BlockKind;
 pub use packet_view::PacketView;
 pub use packet_view::Places;
-pub use packet_view::Verdict;
 pub use packet_view::block_data_in;
 pub use packet_view::mac_in;
 pub use packet_view::part;

@@ -10,8 +10,7 @@ use Rattle.laws.specs.Over.{write}
 use Rattle.laws.proofs.Answers.{then-given, then-refused}
 use Rattle.laws.proofs.Overwrite.{write-write, take-write}
 use Rattle.packet_head.specs.Trailer.{trailerLen}
-use Rattle.packet_build.specs.Build.{Parts, blockBytes, bodyBytes, signedBytes, tailBytes, frameBytes, buildOf, bodyOf}
-use Rattle.packet_build.specs.Tested.{partsTest}
+use Rattle.packet_build.specs.Build.{Parts, blockBytes, bodyBytes, signedBytes, tailBytes, frameBytes, buildOf, bodyOf, partsTest}
 use Rattle.packet_build.proofs.Sizes.{FineParts, bytesN-is, body-length, signed-length, tail-length}
 
 -- ---- the answers

@@ -2,4 +2,3 @@ pub mod Tests
 pub mod Sizes
 pub mod Frames
 pub mod TwoCalls
-pub mod Settled

@@ -11,8 +11,7 @@ use Rattle.laws.specs.Answer.{Answer.given, refuseIf}
 use Rattle.laws.proofs.Answers.{Holds, holds-refuse, holds-then, holds-given}
 use Rattle.packet_head.specs.Header.{Control}
 use Rattle.packet_head.specs.Trailer.{trailerLen, macLen}
-use Rattle.packet_build.specs.Build.{FrameBlock, FrameBlock.noScb, FrameBlock.scb, Parts, present, due, blockN, blockBytes, bodyBytes, signedBytes, tailBytes, frameBytes, differ, testOf, totalN, buildOf}
-use Rattle.packet_build.specs.Tested.{partsTest}
+use Rattle.packet_build.specs.Build.{FrameBlock, FrameBlock.noScb, FrameBlock.scb, Parts, present, due, blockN, blockBytes, bodyBytes, signedBytes, tailBytes, frameBytes, differ, testOf, totalN, buildOf, partsTest}
 
 -- ---- lengths
 

@@ -5,8 +5,7 @@ use mathlib.Core.List.{List, _++_}
 use Prim.Native.Nat.{ℕ}
 use lib.ListN.{length}
 use Rattle.laws.specs.Answer.{Answer, Answer.given, Answer.refused, andThen}
-use Rattle.packet_build.specs.Build.{Parts, bodyBytes, tailBytes, frameBytes, buildOf, bodyOf}
-use Rattle.packet_build.specs.Tested.{partsTest}
+use Rattle.packet_build.specs.Build.{Parts, bodyBytes, tailBytes, frameBytes, buildOf, bodyOf, partsTest}
 
 -- the parts, with this MAC
 abbrev pub withMac : Parts → List ℕ → Parts

@@ -5,9 +5,7 @@ use mathlib.Core.Bool.{Bool, true, false, not, cond}
 use mathlib.Core.List.{List, [], _∷_, _++_}
 use lib.Dec.{ltb, eqb}
 use lib.ListN.{length}
-use Rattle.laws.specs.Answer.{Answer, Answer.given, Answer.refused, refuseIf, andThen}
-use Rattle.laws.specs.Over.{write}
-use Rattle.refusal.specs.Paper.{refusalOf}
+use Rattle.laws.specs.Answer.{Answer, Answer.given, refuseIf, andThen}
 use Rattle.packet_sums.specs.Checksum.{checksumOf}
 use Rattle.packet_sums.specs.Crc.{crcOf, lowFirst}
 use Rattle.packet_head.specs.Header.{Control, control, ctrlByte}
@@ -16,7 +14,6 @@ use Rattle.packet_head.specs.Trailer.{trailerLen, macLen}
 use Rattle.packet_build.specs.declared.codec.BuildBlock.{BuildBlock}
 use Rattle.packet_build.specs.declared.codec.GivenMac.{GivenMac}
 use Rattle.packet_build.specs.declared.codec.PacketBuilder.{PacketBuilder}
-use Rattle.packet_build.specs.declared.codec.Built.{Built}
 
 -- ---- what a frame is made of
 
@@ -68,6 +65,10 @@ testOf c there due mac block dat have =
     (refuseIf (ltb have (totalN (c .1) there mac block dat)) 18 (totalN (c .1) there mac block dat ∷ have ∷ [])
     (given (totalN (c .1) there mac block dat)))))))
 
+-- of a block, `mac` bytes of MAC and `dat` bytes of data
+abbrev pub partsTest : Control → FrameBlock → ℕ → ℕ → ℕ → Answer ℕ
+partsTest c b mac dat have = testOf c (present b) (due b) mac (blockN b) dat have
+
 -- ---- the bytes
 
 abbrev pub blockBytes : FrameBlock → List ℕ
@@ -99,24 +100,13 @@ frameBytes p total = signedBytes p total ++ tailBytes (p .ctrl .1) (signedBytes 
 
 unfoldable pub buildOf : Parts → ℕ → Answer (List ℕ)
 buildOf p have =
-    andThen (testOf (p .ctrl) (present (p .block)) (due (p .block)) (length (p .mac)) (blockN (p .block)) (length (p .«data»)) have)
-    (λ total. given (frameBytes p total))
+    andThen (partsTest (p .ctrl) (p .block) (length (p .mac)) (length (p .«data»)) have) (λ total. given (frameBytes p total))
 
 -- the first of two calls, where the MAC is not yet known: tested as building with four bytes of MAC; from 53 to the end of data
 unfoldable pub bodyOf : Parts → ℕ → Answer (List ℕ)
 bodyOf p have =
-    andThen (testOf (p .ctrl) (present (p .block)) (due (p .block)) 4 (blockN (p .block)) (length (p .«data»)) have)
+    andThen (partsTest (p .ctrl) (p .block) 4 (length (p .«data»)) have)
     (λ total. given (bodyBytes (p .addr) (p .ctrl) (p .block) (p .code) (p .«data») total))
-
--- what a call answers: how many bytes it wrote
-abbrev pub sized : Answer (List ℕ) → Answer ℕ
-sized (given b) = given (length b)
-sized (refused n vs) = refused n vs
-
--- what the buffer holds in the end: those bytes at its front, or what it held
-abbrev pub written : Answer (List ℕ) → List ℕ → List ℕ
-written (given b) o = write o 0 b
-written (refused n vs) o = o
 
 -- ---- the code's kinds, as the paper has them; data beside an absent block is no part of the packet
 
@@ -131,7 +121,3 @@ macBytes (GivenMac.Is a b c d) = a ∷ b ∷ c ∷ d ∷ []
 abbrev pub partsGiven : PacketBuilder → List ℕ → List ℕ → GivenMac → Parts
 partsGiven w l d m =
     record { addr = w .addr .0; ctrl = control (w .ctrl); block = scbGiven (w .block) l; code = w .code; «data» = d; mac = macBytes m }
-
-abbrev pub built : Built → Answer ℕ
-built (Built.Done n) = given n
-built (Built.Refused e) = refusalOf e

@@ -4,16 +4,11 @@ use Prim.Native.Nat.{ℕ}
 use Rattle.laws.specs.Answer.{Answer, Answer.given, andThen}
 use Rattle.refusal.specs.Paper.{refusalOf}
 use Rattle.packet_head.specs.Header.{Control, ctrlByte}
-use Rattle.packet_build.specs.Build.{FrameBlock, present, due, blockN, testOf}
 use Rattle.packet_build.specs.declared.test.Tested.{Tested}
 
 -- a length that the tests gave, with the control byte beside it
 unfoldable pub withCtrl : Control → Answer ℕ → Answer (ℕ × ℕ)
 withCtrl c a = andThen a (λ total. given (total, ctrlByte c))
-
--- the tests of a block, of `dat` bytes of data, and `mac` bytes of MAC
-abbrev pub partsTest : Control → FrameBlock → ℕ → ℕ → ℕ → Answer ℕ
-partsTest c b mac dat have = testOf c (present b) (due b) mac (blockN b) dat have
 
 abbrev pub tested : Tested → Answer (ℕ × ℕ)
 tested (Tested.Total n b) = given (n, b)

@@ -2,7 +2,9 @@
 ghost use mathlib.Core.Path.{_≡_};
 ghost use Prim.Native.Nat.{_≤_};
 ghost use lib.ListN.{length};
-ghost use Rattle.packet_build.specs.Build.{macBytes, partsGiven, buildOf, bodyOf, built, sized, written};
+ghost use Rattle.laws.specs.Buffer.{sized, written};
+ghost use Rattle.refusal.specs.Reading.{lengthAnswer};
+ghost use Rattle.packet_build.specs.Build.{macBytes, partsGiven, buildOf, bodyOf};
 use super::put::put_body;
 use super::put::put_mac;
 use super::put::put_tail;
@@ -11,7 +13,7 @@ use super::test::test_parts;
 use packet_head::Address;
 use packet_head::ControlByte;
 use packet_head::ScsType;
-use refusal::Refusal;
+use refusal::LengthAnswer;
 
 // The security block's type; its data is lent beside it.
 pub enum BuildBlock {
@@ -56,35 +58,35 @@ impl PacketBuilder {
     }
 }
 
-// How many bytes were written, from the buffer's first on.
-pub enum Built {
-    Done(usize),
-    Refused(Refusal),
-}
-
 // Writes the frame into out, or refuses and leaves out as it is. Where w has no block, the bytes in block are not looked at.
-pub fn build(w: PacketBuilder, block: &[u8], data: &[u8], mac: GivenMac, out: &mut [u8]) -> Built
-    ensures { λ r. ⌜ built r ≡ sized (buildOf (partsGiven w (now (block .entry)) (now («data» .entry)) mac) (length (now (out .entry)))) ⌝ }
+pub fn build(
+    w: PacketBuilder,
+    block: &[u8],
+    data: &[u8],
+    mac: GivenMac,
+    out: &mut [u8],
+) -> LengthAnswer
+    ensures { λ r. ⌜ lengthAnswer r ≡ sized (buildOf (partsGiven w (now (block .entry)) (now («data» .entry)) mac) (length (now (out .entry)))) ⌝ }
     ensures { λ _. ⌜ now (out .exit) ≡ written (buildOf (partsGiven w (now (block .entry)) (now («data» .entry)) mac) (length (now (out .entry)))) (now (out .entry)) ⌝ }
 {
     match test_parts(w, block, data, mac.size(), out.len()) {
         Tested::Total(total, ctrl) => {
             let n = put_body(out, w, ctrl, block, data, total);
             let m = put_mac(out, n, mac);
-            Built::Done(put_tail(out, m, w.ctrl.crc))
+            LengthAnswer::Of(put_tail(out, m, w.ctrl.crc))
         }
-        Tested::Refused(e) => Built::Refused(e),
+        Tested::Refused(e) => LengthAnswer::Refused(e),
     }
 }
 
 // The first of two calls, for a packet whose MAC is not known yet: it writes what the MAC is worked out over, from 53 to the
 // end of data, where the whole frame would have room. The second is build, given the MAC.
-pub fn build_body(w: PacketBuilder, block: &[u8], data: &[u8], out: &mut [u8]) -> Built
-    ensures { λ r. ⌜ built r ≡ sized (bodyOf (partsGiven w (now (block .entry)) (now («data» .entry)) GivenMac.Absent) (length (now (out .entry)))) ⌝ }
+pub fn build_body(w: PacketBuilder, block: &[u8], data: &[u8], out: &mut [u8]) -> LengthAnswer
+    ensures { λ r. ⌜ lengthAnswer r ≡ sized (bodyOf (partsGiven w (now (block .entry)) (now («data» .entry)) GivenMac.Absent) (length (now (out .entry)))) ⌝ }
     ensures { λ _. ⌜ now (out .exit) ≡ written (bodyOf (partsGiven w (now (block .entry)) (now («data» .entry)) GivenMac.Absent) (length (now (out .entry)))) (now (out .entry)) ⌝ }
 {
     match test_parts(w, block, data, 4, out.len()) {
-        Tested::Total(total, ctrl) => Built::Done(put_body(out, w, ctrl, block, data, total)),
-        Tested::Refused(e) => Built::Refused(e),
+        Tested::Total(total, ctrl) => LengthAnswer::Of(put_body(out, w, ctrl, block, data, total)),
+        Tested::Refused(e) => LengthAnswer::Refused(e),
     }
 }

@@ -4,7 +4,6 @@ mod put;
 mod test;
 
 pub use codec::BuildBlock;
-pub use codec::Built;
 pub use codec::GivenMac;
 pub use codec::PacketBuilder;
 pub use codec::build;

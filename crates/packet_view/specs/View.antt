@@ -7,12 +7,11 @@ use lib.Dec.{leb}
 use lib.ListN.{length, take, drop}
 use denote.Ref.{RefT}
 use Rattle.laws.specs.Answer.{Answer, Answer.given, Answer.refused}
-use Rattle.refusal.specs.Paper.{refusalOf}
+use Rattle.refusal.specs.Reading.{outcomeAnswer}
 use Rattle.packet_head.specs.Header.{Control, control}
 use Rattle.packet_head.specs.Block.{typeOf}
 use Rattle.packet_head.specs.Trailer.{Tail, Tail.checksum, tail}
 use Rattle.packet_parse.specs.Frame.{Fields, BlockAt, MacAt, MacAt.noMac, MacAt.macFrom, typeIn, blockStart, blockLen, parseOf}
-use Rattle.packet_view.specs.declared.parts.Verdict.{Verdict}
 use Rattle.packet_view.specs.declared.parts.BlockKind.{BlockKind}
 use Rattle.packet_view.specs.declared.parts.Places.{Places}
 use Rattle.packet_view.specs.declared.view.PacketView.{PacketView}
@@ -40,7 +39,7 @@ macIn (macFrom at) = (at, 4)
 -- ---- what a view tells
 
 pub record Shown : Type 0 where
-  pub verdict : Answer (Unit {0})
+  pub outcome : Answer (Unit {0})
   pub addr : ℕ
   pub ctrl : Control
   pub type : ℕ
@@ -55,7 +54,7 @@ pub record Shown : Type 0 where
 unfoldable pub placesOf : Answer Fields → Shown
 placesOf (given F) =
     record {
-      verdict = given tt;
+      outcome = given tt;
       addr = F .addr;
       ctrl = F .ctrl;
       type = typeIn (F .block);
@@ -68,7 +67,7 @@ placesOf (given F) =
     }
 placesOf (refused n vs) =
     record {
-      verdict = refused n vs;
+      outcome = refused n vs;
       addr = 0;
       ctrl = (0, false, false);
       type = 0;
@@ -98,10 +97,6 @@ frameMacOf s = bytesAt s (λ F. macIn (F .mac)) (parseOf s)
 
 -- ---- the code's kinds, as the paper has them
 
-abbrev pub verdictOf : Verdict → Answer (Unit {0})
-verdictOf Verdict.Accepted = given tt
-verdictOf (Verdict.Refused e) = refusalOf e
-
 abbrev pub kindOf : BlockKind → ℕ
 kindOf BlockKind.Absent = 0
 kindOf (BlockKind.Present ty) = typeOf ty
@@ -109,7 +104,7 @@ kindOf (BlockKind.Present ty) = typeOf ty
 abbrev pub placesTold : Places → Shown
 placesTold p =
     record {
-      verdict = verdictOf (p .verdict);
+      outcome = outcomeAnswer (p .outcome) tt;
       addr = p .addr .0;
       ctrl = control (p .ctrl);
       type = kindOf (p .block);
@@ -126,7 +121,7 @@ abbrev pub viewed : PacketView → RefT (List ℕ) × Shown
 viewed v = (
   v .frame,
   record {
-    verdict = verdictOf (v .verdict);
+    outcome = outcomeAnswer (v .outcome) tt;
     addr = v .addr .0;
     ctrl = control (v .ctrl);
     type = kindOf (v .block);

@@ -14,12 +14,8 @@ use packet_parse::MacPart;
 use packet_parse::Parsed;
 use packet_parse::ParsedPacket;
 use packet_parse::parse;
+use refusal::Outcome;
 use refusal::Refusal;
-
-pub enum Verdict {
-    Accepted,
-    Refused(Refusal),
-}
 
 pub enum BlockKind {
     Absent,
@@ -28,7 +24,7 @@ pub enum BlockKind {
 
 // Each place is counted from the frame's first byte. A part that is not there has the length 0.
 pub struct Places {
-    pub verdict: Verdict,
+    pub outcome: Outcome,
     pub addr: Address,
     pub ctrl: ControlByte,
     pub block: BlockKind,
@@ -90,7 +86,7 @@ fn accepted(p: ParsedPacket) -> Places
     let block = block_span(b);
     let mac = mac_span(m);
     Places {
-        verdict: Verdict::Accepted,
+        outcome: Outcome::Done,
         addr,
         ctrl,
         block: block_kind(b),
@@ -111,7 +107,7 @@ fn refused(e: Refusal) -> Places
     ensures { λ r. ⌜ placesTold r ≡ placesOf (refusalOf e) ⌝ }
 {
     Places {
-        verdict: Verdict::Refused(e),
+        outcome: Outcome::Refused(e),
         addr: Address::from_raw(0),
         ctrl: ControlByte::new(Sqn::ZERO, false, false),
         block: BlockKind::Absent,

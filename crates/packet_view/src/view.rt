@@ -3,16 +3,16 @@ ghost use mathlib.Core.Path.{_≡_};
 ghost use Rattle.packet_parse.specs.Frame.{parseOf};
 ghost use Rattle.packet_view.specs.View.{placesOf, viewed, partOf, blockDataOf, payloadOf, frameMacOf};
 use super::parts::BlockKind;
-use super::parts::Verdict;
 use super::parts::part;
 use super::parts::places_in;
 use packet_head::Address;
 use packet_head::ControlByte;
 use packet_head::Trailer;
+use refusal::Outcome;
 
 pub struct PacketView<'a> {
     pub frame: &'a [u8],
-    pub verdict: Verdict,
+    pub outcome: Outcome,
     pub addr: Address,
     pub ctrl: ControlByte,
     pub block: BlockKind,
@@ -35,7 +35,7 @@ impl<'a> PacketView<'a> {
         let p = places_in(frame);
         PacketView {
             frame,
-            verdict: p.verdict,
+            outcome: p.outcome,
             addr: p.addr,
             ctrl: p.ctrl,
             block: p.block,

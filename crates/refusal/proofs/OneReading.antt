@@ -1,6 +1,6 @@
--- A refusal has one reading: its number and its values give it back, so two that read alike are the same.
+-- A refusal has one reading: its number and its values give it back, so two that read alike are the same. So have the shared answers.
 -- Assumes nothing.
-use mathlib.Core.Path.{_≡_, refl}
+use mathlib.Core.Path.{_≡_, refl, sym, ap, _∙_}
 use mathlib.Core.Bool.{cond}
 use mathlib.Core.List.{List}
 use Prim.Native.Nat.{ℕ}
@@ -9,6 +9,9 @@ use lib.ListN.{getD}
 use Rattle.laws.specs.Answer.{Answer, Answer.given, Answer.refused}
 use Rattle.laws.proofs.Answers.{one-reading}
 use Rattle.refusal.specs.Paper.{refusalOf}
+use Rattle.refusal.specs.Reading.{outcomeAnswer, lengthAnswer}
+use Rattle.refusal.specs.declared.Outcome.{Outcome}
+use Rattle.refusal.specs.declared.LengthAnswer.{LengthAnswer}
 use Rattle.refusal.specs.declared.Refusal.{Refusal}
 use Rattle.refusal.specs.declared.Refusal.the-variants.{Truncated, BadSom, BadControlByte, BadLength, BadSecurityBlockLength, BadSecurityBlock, BadCrc, BadChecksum, BadAddress, BadSqn, BadMac, BufferOverflow, NotSecure, BadPadding, BadCryptogram, WrongState, BlockTooLong, NoRoom}
 
@@ -61,3 +64,29 @@ told-back (NoRoom x y) = refl
 
 pub same-refusal : (r s : Refusal) → _≡_ {A = Answer ℕ} (refusalOf r) (refusalOf s) → r ≡ s
 same-refusal = one-reading refusalOf refusalBack told-back
+
+-- ---- an outcome, whatever stands beside it
+
+abbrev pub outcomeFrom : {A : Type 0} → Answer A → Outcome
+outcomeFrom (given a) = Outcome.Done
+outcomeFrom (refused n vs) = Outcome.Refused (named n vs)
+
+pub outcome-back : {A : Type 0} (o : Outcome) (a : A) → outcomeFrom (outcomeAnswer o a) ≡ o
+outcome-back Outcome.Done a = refl
+outcome-back (Outcome.Refused e) a = ap Outcome.Refused (told-back e)
+
+pub outcome-settled : {A : Type 0} (o p : Outcome) (a b : A) → outcomeAnswer o a ≡ outcomeAnswer p b → o ≡ p
+outcome-settled o p a b e = sym (outcome-back o a) ∙ ap outcomeFrom e ∙ outcome-back p b
+
+-- ---- a length
+
+abbrev lengthFrom : Answer ℕ → LengthAnswer
+lengthFrom (given n) = LengthAnswer.Of n
+lengthFrom (refused n vs) = LengthAnswer.Refused (named n vs)
+
+length-back : (r : LengthAnswer) → lengthFrom (lengthAnswer r) ≡ r
+length-back (LengthAnswer.Of n) = refl
+length-back (LengthAnswer.Refused e) = ap LengthAnswer.Refused (told-back e)
+
+pub length-settled : (r s : LengthAnswer) → lengthAnswer r ≡ lengthAnswer s → r ≡ s
+length-settled = one-reading lengthAnswer lengthFrom length-back

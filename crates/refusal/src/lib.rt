@@ -24,6 +24,18 @@ pub enum Refusal {
     NoRoom { need: usize, have: usize },
 }
 
+// What a call answers that has nothing else to give.
+pub enum Outcome {
+    Done,
+    Refused(Refusal),
+}
+
+// What a call answers that gives a number of bytes.
+pub enum LengthAnswer {
+    Of(usize),
+    Refused(Refusal),
+}
+
 impl Refusal {
     pub fn number(self) -> u8
         ensures { λ r. ⌜ r ≡ numberOf self ⌝ }

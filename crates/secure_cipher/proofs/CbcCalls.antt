@@ -18,7 +18,7 @@ use Rattle.secure_cipher.specs.Parts.{badPadding, Deciphered}
 use Rattle.secure_cipher.proofs.CbcLaws.{length-hide, reveal-hide}
 use Rattle.secure_cipher.proofs.PadLaws.{padData-front, unpad-refused, unpad-less, unpad-clear}
 
-abbrev cipherDone : Answer ℕ → List ℕ → ℕ → Done
+abbrev pub cipherDone : Answer ℕ → List ℕ → ℕ → Done
 cipherDone a o n = record { answer = a; out = o; steps = n }
 
 -- ---- enciphering

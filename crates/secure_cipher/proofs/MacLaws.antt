@@ -17,7 +17,7 @@ use Rattle.secure_cipher.specs.Parts.{chained}
 use Rattle.secure_cipher.proofs.Turns.{blocksLeft, cut-none, left-all, left-next, left-none}
 use Rattle.secure_cipher.proofs.PadLaws.{padMac-by, length-padMac, bytes-padMac}
 
--- ---- laws for the theory above
+-- ---- by the definitions alone
 
 key-block : (k₁ k₂ : List ℕ) (bs : List (List ℕ)) → Block k₁ → Block k₂ → Block (keyFor k₁ k₂ bs)
 unfolding keyFor

@@ -8,7 +8,7 @@ use native.Mathlib.Nat.{add-zero, add-suc, zero-add, suc-add}
 use native.Mathlib.Omega.{arith}
 use native.Mathlib.Numerals.{add-one}
 use borrow.Author.Tests.{eq-eqb, ne-eqb, eqb-true, eqb-false, lt-ltb, le-ltb}
-use lib.Dec.{eqb, lit<}
+use lib.Dec.{ltb, eqb, lit<}
 use lib.ListN.{length, take, drop, getD, replicate, set, length-append, length-drop, length-replicate, getD-replicate}
 use lib.Seq.{take-append-seam, getD-append-seam, getD-append-add, take-append-le, drop-append-le, take-all, take-suc, take-length, set-at, set-split, append-snoc, length-take-le}
 use Rattle.laws.specs.Answer.{Answer.given, Answer.refused}
@@ -17,7 +17,7 @@ use Rattle.laws.specs.Over.{write}
 use Rattle.laws.proofs.Answers.{given-refused, refuse-true, refuse-false}
 use Rattle.laws.proofs.Overwrite.{write-write, length-write}
 use Rattle.laws.proofs.ByteLists.{bytes-append, bytes-cons, bytes-zeros}
-use Rattle.secure_cipher.specs.Pad.{tail80, padMac, padData, unpadFrom, unpad, roomFor}
+use Rattle.secure_cipher.specs.Pad.{tail80, padMac, padData, unpadFrom, unpad, fitting}
 
 -- ---- the data's padding
 
@@ -206,12 +206,14 @@ last-made s o at rest ea er eo =
 
 -- ---- the calls
 
-module _ (x o : List ℕ) (need : ℕ) (e : need ≡ length x) where
-  pub fits-short : length o < need → refused 18 (need ∷ length o ∷ []) ≡ roomFor x o
-  fits-short h = rw (← e, lt-ltb (length o) need h) (sym (refuse-true true 18 (need ∷ length o ∷ []) (given need) refl))
+module _ (x : List ℕ) (have need : ℕ) (e : need ≡ length x) where
+  pub fitting-short : have < need → refused 18 (need ∷ have ∷ []) ≡ fitting x have
+  unfolding fitting
+  fitting-short h = rw (← e) (sym (refuse-true (ltb have need) 18 (need ∷ have ∷ []) (given x) (lt-ltb have need h)))
 
-  pub fits-good : need ≤ length o → given need ≡ roomFor x o
-  fits-good h = rw (← e, le-ltb (length o) need h) (sym (refuse-false false 18 (need ∷ length o ∷ []) (given need) refl))
+  pub fitting-good : need ≤ have → given x ≡ fitting x have
+  unfolding fitting
+  fitting-good h = rw (← e) (sym (refuse-false (ltb have need) 18 (need ∷ have ∷ []) (given x) (le-ltb have need h)))
 
 set-write : (o : List ℕ) (n v : ℕ) → n < length o → set o n v ≡ write o n (v ∷ [])
 unfolding write

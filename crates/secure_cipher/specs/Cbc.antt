@@ -11,7 +11,8 @@ use Rattle.laws.specs.Bytes.{xorl, zeros}
 use Rattle.laws.specs.Blocks.{blocks, flat}
 use Rattle.laws.specs.Over.{write}
 use Rattle.aes.specs.Cipher.{E, D}
-use Rattle.secure_cipher.specs.Pad.{padData, unpad, lengthAnswer}
+use Rattle.refusal.specs.Reading.{lengthAnswer}
+use Rattle.secure_cipher.specs.Pad.{padData, unpad}
 use Rattle.secure_cipher.specs.declared.cipher.Ciphered.{Ciphered}
 
 -- blocks, and how often the cipher was called for them
@@ -63,7 +64,8 @@ pub record Done : Type 0 where
   pub out : List ℕ
   pub steps : ℕ
 
-abbrev cipherStop : ℕ → List ℕ → List ℕ → Done
+-- a refusal before anything is done
+abbrev pub cipherStop : ℕ → List ℕ → List ℕ → Done
 cipherStop n vs o = record { answer = refused n vs; out = o; steps = 0 }
 
 -- how long n bytes of payload become

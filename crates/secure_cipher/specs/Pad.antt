@@ -7,9 +7,6 @@ use lib.Dec.{ltb, eqb}
 use lib.ListN.{length, getD}
 use Rattle.laws.specs.Answer.{Answer, Answer.given, Answer.refused, refuseIf}
 use Rattle.laws.specs.Bytes.{zeros}
-use Rattle.laws.specs.Over.{write}
-use Rattle.refusal.specs.Paper.{refusalOf}
-use Rattle.secure_cipher.specs.declared.pad.LengthAnswer.{LengthAnswer}
 
 -- 80, and zeros up to a multiple of 16, after n bytes
 unfoldable pub tail80 : ℕ → List ℕ
@@ -33,18 +30,7 @@ unpadFrom (suc i) l =
 unfoldable pub unpad : List ℕ → Answer ℕ
 unpad l = unpadFrom (length l) l
 
--- ---- the calls: into a buffer o, 18 (need, have)
+-- ---- the calls: padded bytes into a buffer of `have` bytes, 18 (need, have)
 
-abbrev pub roomFor : List ℕ → List ℕ → Answer ℕ
-roomFor x o = refuseIf (ltb (length o) (length x)) 18 (length x ∷ length o ∷ []) (given (length x))
-
--- what the buffer holds in the end
-abbrev pub paddedInto : Answer ℕ → List ℕ → List ℕ → List ℕ
-paddedInto (given n) x o = write o 0 x
-paddedInto (refused n vs) x o = o
-
--- ---- the code's answer, as the paper has it
-
-abbrev pub lengthAnswer : LengthAnswer → Answer ℕ
-lengthAnswer (LengthAnswer.Of n) = given n
-lengthAnswer (LengthAnswer.Refused e) = refusalOf e
+unfoldable pub fitting : List ℕ → ℕ → Answer (List ℕ)
+fitting b have = refuseIf (ltb have (length b)) 18 (length b ∷ have ∷ []) (given b)

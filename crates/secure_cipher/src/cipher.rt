@@ -10,7 +10,7 @@ ghost use Rattle.secure_cipher.specs.Cbc.{hide, decRun, encryptOf, decry
 ghost use Rattle.secure_cipher.specs.Parts.{badPadding, Deciphered};
 use super::block;
 use super::pad;
-use super::pad::LengthAnswer;
+use refusal::LengthAnswer;
 use refusal::Refusal;
 
 // What a call answers, and how often it called the cipher.

@@ -10,7 +10,6 @@ pub use cipher::decrypt_data;
 pub use cipher::encrypt_data;
 pub use mac::ChainMac;
 pub use mac::cbc_mac;
-pub use pad::LengthAnswer;
 pub use pad::pad_data;
 pub use pad::pad_mac;
 pub use pad::unpad_data;

@@ -2,19 +2,17 @@
 ghost use mathlib.Core.Path.{_≡_};
 ghost use Prim.Native.Nat.{_*_, _/_};
 ghost use lib.ListN.{length, drop};
-ghost use Rattle.secure_cipher.specs.Pad.{padMac, padData, unpad, roomFor, paddedInto, lengthAnswer};
+ghost use Rattle.laws.specs.Buffer.{sized, written};
+ghost use Rattle.refusal.specs.Reading.{lengthAnswer};
+ghost use Rattle.secure_cipher.specs.Pad.{padMac, padData, unpad, fitting};
 use super::block;
+use refusal::LengthAnswer;
 use refusal::Refusal;
-
-pub enum LengthAnswer {
-    Of(usize),
-    Refused(Refusal),
-}
 
 // For the MAC: nothing is added at a multiple of 16.
 pub fn pad_mac(data: &[u8], out: &mut [u8]) -> LengthAnswer
-    ensures { λ r. ⌜ lengthAnswer r ≡ roomFor (padMac (now («data» .entry))) (now (out .entry)) ⌝ }
-    ensures { λ r. ⌜ now (out .exit) ≡ paddedInto (lengthAnswer r) (padMac (now («data» .entry))) (now (out .entry)) ⌝ }
+    ensures { λ r. ⌜ lengthAnswer r ≡ sized (fitting (padMac (now («data» .entry))) (length (now (out .entry)))) ⌝ }
+    ensures { λ _. ⌜ now (out .exit) ≡ written (fitting (padMac (now («data» .entry))) (length (now (out .entry)))) (now (out .entry)) ⌝ }
 {
     let n = data.len();
     if n % 16 != 0 {
@@ -32,8 +30,8 @@ pub fn pad_mac(data: &[u8], out: &mut [u8]) -> LengthAnswer
 
 // For encrypted data: always at least the 80.
 pub fn pad_data(data: &[u8], out: &mut [u8]) -> LengthAnswer
-    ensures { λ r. ⌜ lengthAnswer r ≡ roomFor (padData (now («data» .entry))) (now (out .entry)) ⌝ }
-    ensures { λ r. ⌜ now (out .exit) ≡ paddedInto (lengthAnswer r) (padData (now («data» .entry))) (now (out .entry)) ⌝ }
+    ensures { λ r. ⌜ lengthAnswer r ≡ sized (fitting (padData (now («data» .entry))) (length (now (out .entry)))) ⌝ }
+    ensures { λ _. ⌜ now (out .exit) ≡ written (fitting (padData (now («data» .entry))) (length (now (out .entry)))) (now (out .entry)) ⌝ }
 {
     let n = data.len();
     let need = n / 16 * 16 + 16;

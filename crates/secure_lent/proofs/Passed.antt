@@ -25,13 +25,12 @@ use denote.RattleType.{RattleType, Denots, Valss, owns}
 use denote.Laws.{Is, Are, Ises, Tells, Tellss, Spells, valss}
 use denote.Builtin.{u8}
 use denote.Ref.{ptr, now}
-use denote.Slice.{sliceVal, shr-slice-tells, shr-slice-lawful, mut-slice-tells, mut-slice-lawful}
+use denote.Slice.{sliceTy, sliceVal, shr-slice-tells, shr-slice-lawful, mut-slice-tells, mut-slice-lawful}
 use denote.Signature.{Slot, plain, shrSliceOf, mutSliceOf, meetAt, typesAt}
 use denote.Exit.{yes, Last, left}
 use denote.Triple.End.{all, Fins, Outs, outs, lastsOf}
 use denote.Triple.Walked.{Stay, Stays, hasOf, fitsOf, AllGo}
 use Rattle.secure_lent.proofs.Datum.{Datum}
-use Rattle.secure_lent.proofs.Lending.{sliceTy}
 use Rattle.secure_lent.proofs.Locals.{Words}
 
 -- passed on as it is

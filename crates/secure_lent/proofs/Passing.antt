@@ -20,9 +20,9 @@ use types.Part.{agg, whole, sub, look-in}
 use contract.Lifetimes.{Lfts}
 use denote.RattleType.{flat}
 use denote.Ref.{ptr, now}
-use denote.Slice.{sliceVal}
+use denote.Slice.{sliceTy, sliceVal}
 use denote.Signature.{typesAt}
-use Rattle.secure_lent.proofs.Lending.{sliceTy, near}
+use Rattle.secure_lent.proofs.Lending.{near}
 use Rattle.secure_lent.proofs.Locals.{LocalBlocks, Words, envs, rooms, cells, Stand, here, next}
 use Rattle.secure_lent.proofs.Passed.{Passed, copied, buffer, inner, outer, slots, tys, Values, value-words, outer-vals, inner-vals, Related, typed-one}
 

@@ -12,8 +12,8 @@ use denote.Struct.Laws as LL
 use denote.Enum.Laws as EL
 use Rattle.secure_session.proofs.session.Session as T
 use Rattle.secure_session.proofs.session.Session.Laws as T′
-use Rattle.secure_session.proofs.session.Outcome as O
-use Rattle.secure_session.proofs.session.Outcome.Laws as O′
+use Rattle.refusal.proofs.Outcome as O
+use Rattle.refusal.proofs.Outcome.Laws as O′
 use Rattle.secure_session.proofs.session.Stepped as S
 use Rattle.secure_session.proofs.session.Stepped.Laws as S′
 use Rattle.secure_session.proofs.session.SteppedBlock as B

@@ -7,10 +7,10 @@ ghost use Rattle.secure_seal.specs.Seal.{askedOf, sealOf, sealTold};
 ghost use Rattle.secure_unseal.specs.Unseal.{unsealOf, unsealTold};
 use packet_head::Address;
 use packet_head::Sqn;
-use secure_cipher::LengthAnswer;
+use refusal::LengthAnswer;
+use refusal::Outcome;
 use secure_seal::Direction;
 use secure_session::BlockAnswer;
-use secure_session::Outcome;
 use secure_session::Session;
 use secure_unseal::PlaceAnswer;
 

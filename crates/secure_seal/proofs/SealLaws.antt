@@ -73,10 +73,10 @@ type-byte PdToAcu true = omega arith
 
 -- ---- the data
 
-pub length-dataLen : (e : Bool) (x : List ℕ) → length x ≤ dataLenFor e x
+pub payload-fits : (e : Bool) (x : List ℕ) → length x ≤ dataLenFor e x
 unfolding dataLenFor
-length-dataLen false x = omega arith
-length-dataLen true x = omega (arith, length-padData x)
+payload-fits false x = omega arith
+payload-fits true x = omega (arith, length-padData x)
 
 module _ (k v x : List ℕ) (hk : Block k) (hv : Block v) (hx : Bytes x) where
   pub data-length : (e : Bool) → length (dataOf e k v x .bytes) ≡ dataLenFor e x

@@ -3,7 +3,7 @@
 use mathlib.Core.Path.{_≡_, ap}
 use mathlib.Core.List.{List}
 use Prim.Native.Nat.{ℕ}
-use Rattle.secure_cipher.proofs.Settled.{length-settled}
+use Rattle.refusal.proofs.OneReading.{length-settled}
 use Rattle.secure_seal.specs.Seal.{SealDone, sealTold}
 use Rattle.secure_seal.specs.declared.frame.Sealed.{Sealed}
 

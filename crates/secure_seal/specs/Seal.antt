@@ -13,7 +13,7 @@ use Rattle.packet_head.specs.declared.header.Address.{Address}
 use Rattle.packet_head.specs.declared.header.Sqn.{Sqn}
 use Rattle.packet_build.specs.Build.{FrameBlock.scb, Parts, bodyBytes, frameBytes}
 use Rattle.secure_keys.specs.declared.crypto.SessionKeys.{SessionKeys}
-use Rattle.secure_cipher.specs.Pad.{lengthAnswer}
+use Rattle.refusal.specs.Reading.{lengthAnswer}
 use Rattle.secure_cipher.specs.Mac.{macOf}
 use Rattle.secure_cipher.specs.Cbc.{Hidden, hide, hiddenLen}
 use Rattle.secure_session.specs.Session.{isSecure, sendFrom, sent}

@@ -7,15 +7,15 @@ ghost use lib.ListN.{length, take};
 ghost use Rattle.laws.specs.Over.{write};
 ghost use Rattle.packet_build.specs.Build.{FrameBlock.scb, bodyBytes, tailBytes};
 ghost use Rattle.packet_head.specs.Block.{typeOf};
-ghost use Rattle.secure_cipher.specs.Pad.{lengthAnswer};
+ghost use Rattle.refusal.specs.Reading.{lengthAnswer};
 ghost use Rattle.secure_seal.specs.Seal.{typeFor, dataLenFor, dataOf, askedOf, sealedFrame, frameTest, sealOf, sealTold};
 ghost use Rattle.secure_seal.specs.Core.{Put, refusedWith};
 use packet_head::Address;
 use packet_head::ScsType;
 use packet_head::Sqn;
+use refusal::LengthAnswer;
 use refusal::Refusal;
 use secure_cipher::ChainMac;
-use secure_cipher::LengthAnswer;
 use secure_keys::SessionKeys;
 use secure_session::Session;
 

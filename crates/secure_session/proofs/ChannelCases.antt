@@ -8,7 +8,7 @@ use lib.ListN.{take}
 use Rattle.laws.specs.Answer.{Answer, Answer.given, Answer.refused}
 use Rattle.laws.specs.Bytes.{compl, eql}
 use Rattle.secure_keys.specs.declared.crypto.SessionKeys.{SessionKeys}
-use Rattle.secure_cipher.specs.Cbc.{Done, encryptOf, decryptOf}
+use Rattle.secure_cipher.specs.Cbc.{Done, cipherStop, encryptOf, decryptOf}
 use Rattle.secure_session.specs.Channel.{sessionMac, makeMac, verifyOf, keysOf, lastOtherMacOf, sealDataOf, openDataOf, keysBeside}
 use Rattle.secure_session.specs.Session.{isSecure, sendFrom, recvFrom, sent, received}
 use Rattle.secure_session.specs.declared.session.Session.{Session}
@@ -37,11 +37,11 @@ module _ (s : Session) {i : Bool} (hi : i ≡ isSecure (s .state)) where
     unfolding lastOtherMacOf
     last-no = rw (← hi, n)
 
-    pub seal-no : (x o : List ℕ) → record { answer = refused 16 []; out = o; steps = 0 } ≡ sealDataOf s x o
+    pub seal-no : (x o : List ℕ) → cipherStop 16 [] o ≡ sealDataOf s x o
     unfolding sealDataOf
     seal-no x o = rw (← hi, n)
 
-    pub open-no : (x o : List ℕ) → record { answer = refused 16 []; out = o; steps = 0 } ≡ openDataOf s x o
+    pub open-no : (x o : List ℕ) → cipherStop 16 [] o ≡ openDataOf s x o
     unfolding openDataOf
     open-no x o = rw (← hi, n)
 

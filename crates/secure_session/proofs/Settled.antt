@@ -1,31 +1,18 @@
 -- Each answer of this crate has one reading, so a promise on its reading settles it.
 -- Assumes nothing.
 use mathlib.Core.List.{List}
-use mathlib.Core.Path.{_≡_, refl, sym, ap, ap₂, _∙_}
+use mathlib.Core.Path.{_≡_, ap, ap₂, _∙_}
 use Prim.Native.Nat.{ℕ}
-use Rattle.laws.specs.Answer.{Answer, Answer.given, Answer.refused}
-use Rattle.refusal.proofs.OneReading.{named, told-back}
+use Rattle.refusal.specs.declared.Outcome.{Outcome}
+use Rattle.refusal.proofs.OneReading.{outcome-settled}
 use Rattle.secure_keys.specs.declared.crypto.SessionKeys.{SessionKeys}
 use Rattle.secure_session.specs.Channel.{keysAnswer}
-use Rattle.secure_session.specs.Handshake.{Step, outcomeAnswer, stepped, steppedBlock, blockAnswer}
+use Rattle.secure_session.specs.Handshake.{Step, stepped, steppedBlock, blockAnswer}
 use Rattle.secure_session.specs.declared.session.BlockAnswer.{BlockAnswer}
 use Rattle.secure_session.specs.declared.session.KeysAnswer.{KeysAnswer}
-use Rattle.secure_session.specs.declared.session.Outcome.{Outcome}
 use Rattle.secure_session.specs.declared.session.Session.{Session}
 use Rattle.secure_session.specs.declared.session.Stepped.{Stepped}
 use Rattle.secure_session.specs.declared.session.SteppedBlock.{SteppedBlock}
-
-abbrev outcomeFrom : {A : Type 0} → Answer A → Outcome
-outcomeFrom (given a) = Outcome.Done
-outcomeFrom (refused n vs) = Outcome.Refused (named n vs)
-
-outcome-back : {A : Type 0} (o : Outcome) (a : A) → outcomeFrom (outcomeAnswer o a) ≡ o
-outcome-back Outcome.Done a = refl
-outcome-back (Outcome.Refused e) a = ap Outcome.Refused (told-back e)
-
--- whatever stands beside it
-pub outcome-settled : {A : Type 0} (o p : Outcome) (a b : A) → outcomeAnswer o a ≡ outcomeAnswer p b → o ≡ p
-outcome-settled o p a b e = sym (outcome-back o a) ∙ ap outcomeFrom e ∙ outcome-back p b
 
 pub stepped-settled : (r s : Stepped) → stepped r ≡ stepped s → r ≡ s
 stepped-settled r s e =

@@ -6,11 +6,12 @@ use mathlib.Core.List.{List, []}
 use lib.ListN.{take}
 use Rattle.laws.specs.Answer.{Answer, Answer.given, Answer.refused}
 use Rattle.laws.specs.Bytes.{compl, eql}
+use Rattle.refusal.specs.Reading.{outcomeAnswer}
 use Rattle.secure_keys.specs.declared.crypto.SessionKeys.{SessionKeys}
 use Rattle.secure_cipher.specs.Mac.{Mac, macOf}
-use Rattle.secure_cipher.specs.Cbc.{Done, encryptOf, decryptOf}
+use Rattle.secure_cipher.specs.Cbc.{Done, cipherStop, encryptOf, decryptOf}
 use Rattle.secure_session.specs.Session.{isSecure, noKeys, sendFrom, recvFrom, sent, received}
-use Rattle.secure_session.specs.Handshake.{Step, wrongState, outcomeAnswer}
+use Rattle.secure_session.specs.Handshake.{Step, wrongState}
 use Rattle.secure_session.specs.declared.session.Session.{Session}
 use Rattle.secure_session.specs.declared.session.KeysAnswer.{KeysAnswer}
 
@@ -38,15 +39,12 @@ keysOf s = cond (isSecure (s .state)) (given (s .keys)) (refused 16 [])
 unfoldable pub lastOtherMacOf : Session → Answer (List ℕ)
 lastOtherMacOf s = cond (isSecure (s .state)) (given (sendFrom s)) (refused 16 [])
 
-abbrev notSecure : List ℕ → Done
-notSecure o = record { answer = refused 16 []; out = o; steps = 0 }
-
 -- a payload enciphered, and encrypted data opened, from the complement of the chain value; 16, then as the calls alone
 unfoldable pub sealDataOf : Session → List ℕ → List ℕ → Done
-sealDataOf s x o = cond (isSecure (s .state)) (encryptOf (s .keys .«s_enc») (compl (sendFrom s)) x o) (notSecure o)
+sealDataOf s x o = cond (isSecure (s .state)) (encryptOf (s .keys .«s_enc») (compl (sendFrom s)) x o) (cipherStop 16 [] o)
 
 unfoldable pub openDataOf : Session → List ℕ → List ℕ → Done
-openDataOf s c o = cond (isSecure (s .state)) (decryptOf (s .keys .«s_enc») (compl (recvFrom s)) c o) (notSecure o)
+openDataOf s c o = cond (isSecure (s .state)) (decryptOf (s .keys .«s_enc») (compl (recvFrom s)) c o) (cipherStop 16 [] o)
 
 -- ---- the code's answer, as the paper has it; beside a refusal the keys are all zeros
 

@@ -5,13 +5,12 @@ use mathlib.Core.Bool.{cond}
 use mathlib.Core.List.{List, []}
 use Rattle.laws.specs.Answer.{Answer, Answer.given, Answer.refused}
 use Rattle.laws.specs.Bytes.{zeros, eql}
-use Rattle.refusal.specs.Paper.{refusalOf}
+use Rattle.refusal.specs.Reading.{outcomeAnswer}
 use Rattle.secure_keys.specs.Keys.{derive, clientOf, serverOf, firstOf}
 use Rattle.secure_session.specs.Session.{isAt, reset, withStep, secured}
 use Rattle.secure_session.specs.declared.session.End.the-variants.{Controller, Reader}
 use Rattle.secure_session.specs.declared.session.State.the-variants.{Disconnected, Challenged, Cryptogrammed}
 use Rattle.secure_session.specs.declared.session.Session.{Session}
-use Rattle.secure_session.specs.declared.session.Outcome.{Outcome}
 use Rattle.secure_session.specs.declared.session.Stepped.{Stepped}
 use Rattle.secure_session.specs.declared.session.SteppedBlock.{SteppedBlock}
 use Rattle.secure_session.specs.declared.session.BlockAnswer.{BlockAnswer}
@@ -91,10 +90,6 @@ receiveScryptOf s c =
     (wrongState s)
 
 -- ---- the code's answers, as the paper has them; beside a refusal a block is all zeros
-
-abbrev pub outcomeAnswer : {A : Type 0} → Outcome → A → Answer A
-outcomeAnswer Outcome.Done a = given a
-outcomeAnswer (Outcome.Refused e) a = refusalOf e
 
 abbrev pub stepped : Stepped → Step (Unit {0})
 stepped r = record { answer = outcomeAnswer (r .outcome) tt; session = r .session }

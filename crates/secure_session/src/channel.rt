@@ -7,14 +7,14 @@ ghost use Rattle.secure_session.specs.Channel.{sessionMac, makeMac, veri
 use super::session;
 use super::session::BlockAnswer;
 use super::session::KeysAnswer;
-use super::session::Outcome;
 use super::session::Session;
 use super::session::State;
 use super::session::Stepped;
 use super::session::SteppedBlock;
+use refusal::LengthAnswer;
+use refusal::Outcome;
 use refusal::Refusal;
 use secure_cipher::Ciphered;
-use secure_cipher::LengthAnswer;
 
 pub fn is_secure(state: State) -> bool
     ensures { λ r. ⌜ r ≡ isSecure state ⌝ }

@@ -6,7 +6,6 @@ pub use channel::is_secure;
 pub use session::BlockAnswer;
 pub use session::End;
 pub use session::KeysAnswer;
-pub use session::Outcome;
 pub use session::Session;
 pub use session::State;
 pub use session::Stepped;

@@ -5,6 +5,7 @@ ghost use Rattle.secure_keys.specs.Keys.{firstOf};
 ghost use Rattle.secure_session.specs.Session.{endNumber, stateNumber, isAt, noKeys, fresh, reset, wipedOf, withStep, secured};
 ghost use Rattle.secure_session.specs.declared.session.End.the-variants.{Controller, Reader};
 ghost use Rattle.secure_session.specs.Handshake.{challengeOf, receiveCcryptOf, serverCryptogramOf, initialRmacOf, confirmOf, receiveChallengeOf, receiveScryptOf, serverFor, stepped, steppedBlock, blockAnswer, blockBeside};
+use refusal::Outcome;
 use refusal::Refusal;
 use secure_keys::SessionKeys;
 
@@ -29,11 +30,6 @@ pub struct Session {
     pub cuid: [u8; 8],
     pub keys: SessionKeys,
     pub chain: [u8; 16],
-}
-
-pub enum Outcome {
-    Done,
-    Refused(Refusal),
 }
 
 // A call that answers yes or a refusal, and hands the session back.

@@ -14,12 +14,12 @@ use Rattle.laws.proofs.Lists.{part-length}
 use Rattle.packet_head.specs.Block.{hasMac, isEncrypted}
 use Rattle.packet_parse.specs.Frame.{Fields, typeIn, macStart, parseOf}
 use Rattle.refusal.specs.declared.Refusal.{Refusal}
-use Rattle.secure_cipher.specs.Cbc.{Done, Opening, decryptOf, openedInto, wiped}
+use Rattle.secure_cipher.specs.Cbc.{Done, Opening, cipherStop, decryptOf, openedInto, wiped}
 use Rattle.secure_cipher.specs.Mac.{Mac, macOf}
 use Rattle.secure_keys.specs.declared.crypto.SessionKeys.{SessionKeys}
 use Rattle.secure_session.specs.Session.{isSecure, recvFrom, received}
 use Rattle.secure_session.specs.declared.session.Session.{Session}
-use Rattle.secure_unseal.specs.Unseal.{Checked, UnsealRun, check, openData, unsealPlain, unsealOpened, unsealHidden, unsealParsed, unsealRun, unsealOf, afterUnseal, unsealedOn}
+use Rattle.secure_unseal.specs.Unseal.{Checked, UnsealRun, unsealStop, check, openData, unsealPlain, unsealOpened, unsealHidden, unsealParsed, unsealRun, unsealOf, afterUnseal, unsealedOn}
 use Rattle.secure_unseal.specs.Parts.{ran, stopped}
 use Rattle.secure_unseal.specs.declared.frame.Run.{Run}
 
@@ -71,17 +71,16 @@ unfolding unsealOpened openedInto
 opened-finish c n o (given l) w = refl
 opened-finish c n o (refused m vs) w = refl
 
+-- what deciphering n bytes into w comes to, where the opening is o and `short` says that w has no room
+abbrev pub openedUnless : Bool → ℕ → Opening → List ℕ → Done
+openedUnless short n o w =
+    cond short (cipherStop 18 (n ∷ length w ∷ []) w) (record { answer = o .answer; out = openedInto n o (o .answer) w; steps = o .steps })
+
 module _ (c : Checked) (n : ℕ) (w : List ℕ) where
   finished : Done → UnsealRun
   finished d = finish c n w (d .answer) (d .out) (d .steps)
 
-  -- what deciphering m bytes into w comes to, where the opening is o
-  abbrev deciphered : Bool → ℕ → Opening → Done
-  deciphered b m o =
-      cond b (record { answer = refused 18 (m ∷ length w ∷ []); out = w; steps = 0 }) (record { answer = o .answer; out = openedInto m o (o .answer) w; steps = o .steps })
-
-  hidden-finish : (b : Bool) (o : Opening)
-      → finished (deciphered b n o) ≡ cond b (record { answer = refused 18 (n ∷ length w ∷ []); moved = none; work = w; steps = 0 }) (unsealOpened c n o (o .answer) w)
+  hidden-finish : (b : Bool) (o : Opening) → finished (openedUnless b n o w) ≡ cond b (unsealStop 18 (n ∷ length w ∷ []) w) (unsealOpened c n o (o .answer) w)
   unfolding finished
   hidden-finish true o = refl
   hidden-finish false o = opened-finish c n o (o .answer) w
@@ -94,7 +93,7 @@ hidden-from k v f p c w h e =
     let n = p .dataLen in
     let o = openData k v f p in
     let m : length (take n (drop (p .dataStart) f)) ≡ n = part-length f (p .dataStart) n h in
-    ap (finished c n w) (e ∙ ap (λ (j : ℕ). deciphered c n w (ltb (length w) j) j o) m) ∙ hidden-finish c n w (ltb (length w) n) o
+    ap (finished c n w) (e ∙ ap (λ (j : ℕ). openedUnless (ltb (length w) j) j o w) m) ∙ hidden-finish c n w (ltb (length w) n) o
 
 -- from what was deciphered, and from what the MAC's check x came to
 module _ (k : SessionKeys) (v f : List ℕ) (p : Fields) (w : List ℕ) {a : Answer ℕ} {out : List ℕ} {s : ℕ} (fit : p .dataStart + p .dataLen ≤ length f)
@@ -124,24 +123,21 @@ module _ (k : SessionKeys) (v f : List ℕ) (p : Fields) (w : List ℕ) where
   abbrev sealed : UnsealRun
   sealed = cond (isEncrypted (typeIn (p .block))) (unsealHidden c₀ (openData k v f p) p w) (unsealPlain c₀ p w)
 
-  abbrev not-secure : UnsealRun
-  not-secure = record { answer = refused 13 []; moved = none; work = w; steps = 0 }
-
-  pub parsed-no : hasMac (typeIn (p .block)) ≡ false → not-secure ≡ unsealParsed k v f (given p) w
+  pub parsed-no : hasMac (typeIn (p .block)) ≡ false → unsealStop 13 [] w ≡ unsealParsed k v f (given p) w
   unfolding unsealParsed
-  parsed-no h = no sealed not-secure h
+  parsed-no h = no sealed (unsealStop 13 [] w) h
 
   module _ (h : hasMac (typeIn (p .block)) ≡ true) where
     pub parsed-hidden : isEncrypted (typeIn (p .block)) ≡ true → unsealHidden c₀ (openData k v f p) p w ≡ unsealParsed k v f (given p) w
     unfolding unsealParsed
-    parsed-hidden e = yes (unsealHidden c₀ (openData k v f p) p w) (unsealPlain c₀ p w) e ∙ yes sealed not-secure h
+    parsed-hidden e = yes (unsealHidden c₀ (openData k v f p) p w) (unsealPlain c₀ p w) e ∙ yes sealed (unsealStop 13 [] w) h
 
     pub parsed-plain : isEncrypted (typeIn (p .block)) ≡ false → unsealPlain c₀ p w ≡ unsealParsed k v f (given p) w
     unfolding unsealParsed
-    parsed-plain e = no (unsealHidden c₀ (openData k v f p) p w) (unsealPlain c₀ p w) e ∙ yes sealed not-secure h
+    parsed-plain e = no (unsealHidden c₀ (openData k v f p) p w) (unsealPlain c₀ p w) e ∙ yes sealed (unsealStop 13 [] w) h
 
 pub parsed-refused : (k : SessionKeys) (v f w : List ℕ) (n : ℕ) (vs : List ℕ)
-    → record { answer = refused n vs; moved = none; work = w; steps = 0 } ≡ unsealParsed k v f (refused n vs) w
+    → unsealStop n vs w ≡ unsealParsed k v f (refused n vs) w
 unfolding unsealParsed
 parsed-refused k v f w n vs = refl
 
@@ -156,13 +152,10 @@ unfolding afterUnseal
 after-still s m h = rw h
 
 module _ (s : Session) (f w : List ℕ) where
-  abbrev wrong-state : UnsealRun
-  wrong-state = record { answer = refused 16 []; moved = none; work = w; steps = 0 }
-
   pub on-secure : {x : UnsealRun} → isSecure (s .state) ≡ true → x ≡ unsealParsed (s .keys) (recvFrom s) f (parseOf f) w → unsealedOn s x ≡ unsealOf s f w
   unfolding unsealOf unsealRun
-  on-secure h e = ap (unsealedOn s) (e ∙ yes (unsealParsed (s .keys) (recvFrom s) f (parseOf f) w) wrong-state h)
+  on-secure h e = ap (unsealedOn s) (e ∙ yes (unsealParsed (s .keys) (recvFrom s) f (parseOf f) w) (unsealStop 16 [] w) h)
 
   pub on-other : isSecure (s .state) ≡ false → record { answer = refused 16 []; session = s; work = w; steps = 0 } ≡ unsealOf s f w
   unfolding unsealOf unsealRun afterUnseal
-  on-other h = ap (unsealedOn s) (no (unsealParsed (s .keys) (recvFrom s) f (parseOf f) w) wrong-state h)
+  on-other h = ap (unsealedOn s) (no (unsealParsed (s .keys) (recvFrom s) f (parseOf f) w) (unsealStop 16 [] w) h)

@@ -10,9 +10,9 @@ use borrow.Author.Tests.{lt-ltb, le-ltb, ltb-true, ltb-false}
 use lib.Dec.{ltb}
 use lib.ListN.{length, take, drop}
 use Rattle.laws.specs.Answer.{Answer.given, Answer.refused, refuseIf}
-use Rattle.secure_unseal.specs.Lookup.{sliceFor, payloadShown, saturated, shownTest}
+use Rattle.secure_unseal.specs.Lookup.{sliceFor, payloadShown, saturated, placeTest, shownTest}
 
--- ---- laws for the theory above
+-- ---- by the definitions alone
 
 module _ (i : Bool) (start len : ℕ) (f w : List ℕ) where
   pub shown-inside : start + len ≤ length (sliceFor i f w) → payloadShown i start len f w ≡ take len (drop start (sliceFor i f w))
@@ -24,11 +24,11 @@ module _ (i : Bool) (start len : ℕ) (f w : List ℕ) where
   shown-outside h = rw (lt-ltb (length (sliceFor i f w)) (start + len) h)
 
   pub test-inside : start + len ≤ length (sliceFor i f w) → shownTest i start len f w ≡ given tt
-  unfolding shownTest refuseIf
+  unfolding shownTest placeTest refuseIf
   test-inside h = rw (le-ltb (length (sliceFor i f w)) (start + len) h)
 
   pub test-outside : length (sliceFor i f w) < start + len → shownTest i start len f w ≡ refused 1 (length (sliceFor i f w) ∷ saturated (start + len) ∷ [])
-  unfolding shownTest refuseIf
+  unfolding shownTest placeTest refuseIf
   test-outside h = rw (lt-ltb (length (sliceFor i f w)) (start + len) h)
 
 -- ---- as the code finds it
@@ -48,7 +48,7 @@ pub in-frame : (f w : List ℕ) {i : Bool} → i ≡ false → f ≡ sliceFor i 
 in-frame f w h = rw h
 
 module _ (i : Bool) (start len : ℕ) (f w : List ℕ) {s : List ℕ} (hs : s ≡ sliceFor i f w) where
-  pub test-in : refuseIf (ltb (length s) (start + len)) 1 (length s ∷ saturated (start + len) ∷ []) (given tt) ≡ shownTest i start len f w
+  pub test-in : placeTest (length s) start len ≡ shownTest i start len f w
   unfolding shownTest
   test-in = rw (← hs)
 

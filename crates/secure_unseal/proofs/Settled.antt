@@ -7,12 +7,8 @@ use Rattle.laws.specs.Answer.{Answer, Answer.given, Answer.refused}
 use Rattle.laws.proofs.Answers.{one-reading}
 use Rattle.refusal.proofs.OneReading.{named, told-back}
 use Rattle.secure_unseal.specs.Unseal.{Place, UnsealDone, placeAnswer, unsealTold}
-use Rattle.secure_unseal.specs.Lookup.{payloadTested}
 use Rattle.secure_unseal.specs.declared.frame.PlaceAnswer.{PlaceAnswer}
 use Rattle.secure_unseal.specs.declared.frame.Unsealed.{Unsealed}
-use Rattle.secure_unseal.specs.declared.lookup.PayloadTest.{PayloadTest}
-
--- ---- unsealing: place, number of calls, session and work buffer
 
 abbrev placeFrom : Answer Place → PlaceAnswer
 placeFrom (given p) = PlaceAnswer.Payload (p .inWork) (p .start) (p .len)
@@ -30,16 +26,3 @@ unseal-settled r s w x e = (
   λ i. record { answer = place-settled (r .answer) (s .answer) (ap (λ (d : UnsealDone). d .answer) e) i; calls = e i .steps; session = e i .session },
   ap (λ (d : UnsealDone). d .work) e,
 )
-
--- ---- the lookup's test; the lookup itself promises its bytes, `now r`
-
-abbrev testFrom : Answer (Unit {0}) → PayloadTest
-testFrom (given u) = PayloadTest.Fits
-testFrom (refused n vs) = PayloadTest.Refused (named n vs)
-
-test-back : (r : PayloadTest) → testFrom (payloadTested r) ≡ r
-test-back PayloadTest.Fits = refl
-test-back (PayloadTest.Refused e) = ap PayloadTest.Refused (told-back e)
-
-pub test-settled : (r s : PayloadTest) → payloadTested r ≡ payloadTested s → r ≡ s
-test-settled = one-reading payloadTested testFrom test-back

@@ -25,6 +25,7 @@ use Rattle.secure_cipher.proofs.MacLaws.{mac-steps}
 use Rattle.secure_cipher.proofs.PadLaws.{unpad-less}
 use Rattle.secure_keys.specs.declared.crypto.SessionKeys.{SessionKeys}
 use Rattle.secure_unseal.specs.Unseal.{check}
+use Rattle.secure_unseal.proofs.Cases.{openedUnless}
 
 -- ---- the text
 
@@ -91,14 +92,8 @@ module _ (k v c : List ℕ) (hk : Block k) (hv : Block v) (hc : Bytes c) where
   opened-wiped o p (given j) l e s = let h : j ≡ l = cc in wiped-laid o (p .text) j (rw h s)
   opened-wiped o p (refused m vs) l e s = absurd (given-refused (sym e))
 
-  -- a deciphering that was not refused by 18
-  abbrev or18 : Bool → List ℕ → Opening → Done
-  or18 b o p =
-      cond b (record { answer = refused 18 (length c ∷ length o ∷ []); out = o; steps = 0 })
-      (record { answer = p .answer; out = openedInto (length c) p (p .answer) o; steps = p .steps })
-
   wiped-or : (b : Bool) (o : List ℕ) (p : Opening) (l : ℕ) → (p .answer ≡ given l → Sized (length c) l (p .text))
-      → or18 b o p .answer ≡ given l → wiped (length c) (or18 b o p .out) ≡ wiped (length c) o
+      → openedUnless b (length c) p o .answer ≡ given l → wiped (length c) (openedUnless b (length c) p o .out) ≡ wiped (length c) o
   wiped-or true o p l f e = absurd (given-refused (sym e))
   wiped-or false o p l f e = opened-wiped o p (p .answer) l e (f e)
 

@@ -6,8 +6,6 @@ use mathlib.Core.List.{List, [], _∷_}
 use lib.Dec.{ltb}
 use lib.ListN.{length, take, drop}
 use Rattle.laws.specs.Answer.{Answer, Answer.given, refuseIf}
-use Rattle.refusal.specs.Paper.{refusalOf}
-use Rattle.secure_unseal.specs.declared.lookup.PayloadTest.{PayloadTest}
 
 -- the slice that a place is in
 abbrev pub sliceFor : Bool → List ℕ → List ℕ → List ℕ
@@ -21,13 +19,9 @@ payloadShown inWork start len f w = cond (ltb (length (sliceFor inWork f w)) (st
 abbrev pub saturated : ℕ → ℕ
 saturated n = cond (ltb n (2 ^ 64)) n 18446744073709551615
 
--- outside: 1 (slice length, end needed)
+-- a place outside a slice of `size` bytes: 1 (slice length, end needed)
+unfoldable pub placeTest : ℕ → ℕ → ℕ → Answer (Unit {0})
+placeTest size start len = refuseIf (ltb size (start + len)) 1 (size ∷ saturated (start + len) ∷ []) (given tt)
+
 unfoldable pub shownTest : Bool → ℕ → ℕ → List ℕ → List ℕ → Answer (Unit {0})
-shownTest inWork start len f w =
-    refuseIf (ltb (length (sliceFor inWork f w)) (start + len)) 1 (length (sliceFor inWork f w) ∷ saturated (start + len) ∷ []) (given tt)
-
--- ---- the code's answer, as the paper has it
-
-abbrev pub payloadTested : PayloadTest → Answer (Unit {0})
-payloadTested PayloadTest.Fits = given tt
-payloadTested (PayloadTest.Refused e) = refusalOf e
+shownTest inWork start len f w = placeTest (length (sliceFor inWork f w)) start len

@@ -53,7 +53,8 @@ pub record UnsealRun : Type 0 where
   pub work : List ℕ
   pub steps : ℕ
 
-abbrev unsealStop : ℕ → List ℕ → List ℕ → UnsealRun
+-- a refusal before anything is done
+abbrev pub unsealStop : ℕ → List ℕ → List ℕ → UnsealRun
 unsealStop n vs w = record { answer = refused n vs; moved = none; work = w; steps = 0 }
 
 -- types 15 and 16: 15; the work buffer stays

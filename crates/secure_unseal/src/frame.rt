@@ -12,9 +12,9 @@ ghost use Rattle.secure_unseal.specs.Parts.{checked, ran, stopped};
 use packet_parse::BlockPart;
 use packet_parse::Parsed;
 use packet_parse::ParsedPacket;
+use refusal::LengthAnswer;
 use refusal::Refusal;
 use secure_cipher::Ciphered;
-use secure_cipher::LengthAnswer;
 use secure_keys::SessionKeys;
 use secure_session::Session;
 

@@ -5,6 +5,5 @@ mod lookup;
 pub use frame::PlaceAnswer;
 pub use frame::Unsealed;
 pub use frame::unseal;
-pub use lookup::PayloadTest;
 pub use lookup::payload;
 pub use lookup::payload_test;

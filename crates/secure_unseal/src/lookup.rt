@@ -1,16 +1,11 @@
 // The payload, looked up where an opening said it stands.
 ghost use mathlib.Core.Path.{_≡_};
-ghost use mathlib.Core.List.{[], _∷_};
 ghost use Prim.Native.Nat.{_+_};
 ghost use lib.Dec.{ltb};
-ghost use Rattle.laws.specs.Answer.{Answer.given, refuseIf};
-ghost use Rattle.secure_unseal.specs.Lookup.{payloadShown, saturated, shownTest, payloadTested};
+ghost use Rattle.refusal.specs.Reading.{outcomeAnswer};
+ghost use Rattle.secure_unseal.specs.Lookup.{payloadShown, saturated, placeTest, shownTest};
+use refusal::Outcome;
 use refusal::Refusal;
-
-pub enum PayloadTest {
-    Fits,
-    Refused(Refusal),
-}
 
 // Whether a place runs past the end of a slice. The sum may pass 64 bits, so it is not made.
 fn outside(size: usize, start: usize, len: usize) -> bool
@@ -55,28 +50,22 @@ pub fn payload<'a>(
     &frame[start..start + len]
 }
 
-fn test(size: usize, start: usize, len: usize) -> PayloadTest
-    ensures { λ r. ⌜ payloadTested r ≡ refuseIf (ltb size (start + len)) 1 (size ∷ saturated (start + len) ∷ []) (given tt) ⌝ }
+fn test(size: usize, start: usize, len: usize) -> Outcome
+    ensures { λ r. ⌜ outcomeAnswer r tt ≡ placeTest size start len ⌝ }
 {
     if outside(size, start, len) {
-        PayloadTest::Refused(Refusal::Truncated {
+        Outcome::Refused(Refusal::Truncated {
             have: size,
             need: end_of(start, len),
         })
     } else {
-        PayloadTest::Fits
+        Outcome::Done
     }
 }
 
 // Whether `payload` shows the place, or shows nothing since it runs outside.
-pub fn payload_test(
-    frame: &[u8],
-    work: &[u8],
-    in_work: bool,
-    start: usize,
-    len: usize,
-) -> PayloadTest
-    ensures { λ r. ⌜ payloadTested r ≡ shownTest «in_work» start len (now (frame .entry)) (now (work .entry)) ⌝ }
+pub fn payload_test(frame: &[u8], work: &[u8], in_work: bool, start: usize, len: usize) -> Outcome
+    ensures { λ r. ⌜ outcomeAnswer r tt ≡ shownTest «in_work» start len (now (frame .entry)) (now (work .entry)) ⌝ }
 {
     if in_work {
         test(work.len(), start, len)

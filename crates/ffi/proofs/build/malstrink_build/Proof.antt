@@ -5,8 +5,9 @@ use Prim.Native.Nat.{ℕ}
 use mathlib.Core.List.{List}
 use lib.ListN.{length}
 use Rattle.laws.specs.Answer.{Answer}
+use Rattle.laws.specs.Buffer.{sized, written}
 use Rattle.refusal.specs.Paper.{numberOf, valuesOf}
-use Rattle.packet_build.specs.Build.{partsGiven, sized, written}
+use Rattle.packet_build.specs.Build.{partsGiven}
 use Rattle.ffi.specs.Answers.{cAnswer}
 use Rattle.ffi.specs.Building.{partsArg, askedParts}
 use Rattle.ffi.specs.declared.build.AskedPacket.{AskedPacket}
@@ -26,7 +27,7 @@ returns c =
     let e = sym (ap (partsArg (a .p) l d) (m .ensures)) ∙ sym (c .before .before .before .before .before .before .before .before .before .ask .ensures l d (m .result)) ∙ ap (λ (x : AskedPacket). askedParts x l d (m .result)) (w .1) in
     let f = sym (build-asked (a .p) l d _ (length o) (partsGiven (w .0 .0) l d (m .result)) e) in
     let g = c .before .before .before .build .ensures in
-    (c .built-c .ensures ∙ ap cAnswer (g .0 ∙ ap sized f), g .1 ∙ ap (λ (x : Answer (List ℕ)). written x o) f)
+    (c .length-c .ensures ∙ ap cAnswer (g .0 ∙ ap sized f), g .1 ∙ ap (λ (x : Answer (List ℕ)). written x o) f)
 
 returns-2 : tie.Need-returns-2
 returns-2 c =

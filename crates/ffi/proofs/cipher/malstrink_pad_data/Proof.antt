@@ -2,18 +2,14 @@
 -- Assumes nothing.
 use mathlib.Core.Path.{ap, _∙_}
 use Rattle.ffi.specs.Answers.{cAnswer}
-use Prim.Native.Nat.{ℕ}
-use Rattle.laws.specs.Answer.{Answer}
-use Rattle.secure_cipher.specs.Pad.{padData, paddedInto}
 use borrow.Author.Needs.{needs}
 use Rattle.ffi.proofs.cipher.malstrink_pad_data.Statement.{statement}
 use Rattle.ffi.proofs.cipher.malstrink_pad_data.Tie as tie
 
 returns : tie.Need-returns
 returns c =
-    let a = c .before .before .before .before .before .before .before .args in
     let g = c .before .before .before .pad-data .ensures in
-    (c .length-c .ensures ∙ ap cAnswer (g .0), g .1 ∙ ap (λ (x : Answer ℕ). paddedInto x (padData (a .«data» .now)) (a .out .now)) (g .0))
+    (c .length-c .ensures ∙ ap cAnswer (g .0), g .1)
 
 pub malstrink-pad-data-spec : {M : Type 1} → statement M
 malstrink-pad-data-spec =

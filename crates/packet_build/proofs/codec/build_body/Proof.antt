@@ -7,10 +7,11 @@ use borrow.Author.Needs.{needs}
 use native.Mathlib.Omega.{arith}
 use lib.ListN.{length}
 use Rattle.laws.specs.Answer.{Answer, Answer.given}
+use Rattle.laws.specs.Buffer.{sized, written}
 use Rattle.refusal.specs.Paper.{numberOf, valuesOf}
 use Rattle.packet_head.specs.Header.{ctrlByte}
-use Rattle.packet_build.specs.Build.{Parts, partsGiven, sized, written}
-use Rattle.packet_build.specs.Tested.{partsTest, tested}
+use Rattle.packet_build.specs.Build.{Parts, partsGiven, partsTest}
+use Rattle.packet_build.specs.Tested.{tested}
 use Rattle.packet_build.specs.declared.codec.GivenMac.{GivenMac}
 use Rattle.packet_build.proofs.Tests.{with-given, with-refused}
 use Rattle.packet_build.proofs.Sizes.{FineParts, fine-parts, bytesN-is, body-length}

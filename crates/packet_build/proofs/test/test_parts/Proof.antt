@@ -5,8 +5,8 @@ use mathlib.Core.Bool.{Bool, true}
 use borrow.Author.Needs.{needs}
 use lib.ListN.{length}
 use Rattle.packet_head.specs.Header.{control}
-use Rattle.packet_build.specs.Build.{scbGiven, testOf}
-use Rattle.packet_build.specs.Tested.{withCtrl, partsTest}
+use Rattle.packet_build.specs.Build.{scbGiven, testOf, partsTest}
+use Rattle.packet_build.specs.Tested.{withCtrl}
 use Rattle.packet_build.specs.declared.codec.BuildBlock.{BuildBlock}
 use Rattle.packet_build.proofs.test.test_parts.Statement.{statement}
 use Rattle.packet_build.proofs.test.test_parts.Tie as tie

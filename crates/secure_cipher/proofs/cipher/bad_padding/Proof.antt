@@ -9,19 +9,16 @@ use borrow.Author.Needs.{needs}
 use Rattle.laws.specs.Answer.{Answer.refused}
 use Rattle.laws.specs.Bytes.{zeros}
 use Rattle.laws.specs.Over.{write}
-use Rattle.secure_cipher.specs.Cbc.{Done, wiped}
+use Rattle.secure_cipher.specs.Cbc.{wiped}
+use Rattle.secure_cipher.proofs.CbcCalls.{cipherDone}
 use Rattle.secure_cipher.proofs.cipher.bad_padding.Statement.{statement}
 use Rattle.secure_cipher.proofs.cipher.bad_padding.Tie as tie
-
--- the refusal, over what the buffer holds
-abbrev padding-ended : ℕ → List ℕ → Done
-padding-ended n o = record { answer = refused 14 []; out = o; steps = n }
 
 returns : tie.Need-returns
 unfolding wiped
 returns c =
     let a = c .before .before .before .before .before .args in
-    ap (padding-ended (a .calls)) (c .before .before .zero .ensures ∙ ap (λ (m : ℕ). write (a .out .now) 0 (zeros m)) (sub-zero (a .n)))
+    ap (λ (o : List ℕ). cipherDone (refused 14 []) o (a .calls)) (c .before .before .zero .ensures ∙ ap (λ (m : ℕ). write (a .out .now) 0 (zeros m)) (sub-zero (a .n)))
 
 pub bad-padding-spec : {M : Type 1} → statement M
 bad-padding-spec = tie.close (tie.spec (λ c κs. omega arith) (λ c. search needs) returns)

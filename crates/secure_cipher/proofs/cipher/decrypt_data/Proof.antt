@@ -5,7 +5,8 @@ use native.Mathlib.Omega.{arith}
 use borrow.Author.Needs.{needs}
 use lib.ListN.{length}
 use Rattle.laws.specs.Blocks.{blocks, flat}
-use Rattle.secure_cipher.specs.Pad.{unpad, lengthAnswer}
+use Rattle.refusal.specs.Reading.{lengthAnswer}
+use Rattle.secure_cipher.specs.Pad.{unpad}
 use Rattle.secure_cipher.specs.Cbc.{decRun}
 use Rattle.secure_cipher.specs.Parts.{Deciphered}
 use Rattle.secure_cipher.proofs.PadLaws.{unpad-less}

@@ -1,10 +1,14 @@
 -- `secure_cipher::pad::pad_data` meets its contract: the bytes, 80 and zeros, one after the other.
 -- Assumes nothing.
-use mathlib.Core.Path.{refl}
+use mathlib.Core.Path.{refl, ap, _∙_}
+use mathlib.Core.List.{List}
+use Prim.Native.Nat.{ℕ}
 use native.Mathlib.Omega.{arith}
 use lib.ListN.{length, length-set}
+use Rattle.laws.specs.Answer.{Answer, Answer.given}
+use Rattle.laws.specs.Buffer.{sized, written}
 use Rattle.secure_cipher.specs.Pad.{padData}
-use Rattle.secure_cipher.proofs.PadLaws.{length-padData, fits-short, fits-good, pad-made}
+use Rattle.secure_cipher.proofs.PadLaws.{length-padData, fitting-short, fitting-good, pad-made}
 use Rattle.secure_cipher.proofs.pad.pad_data.Statement.{statement}
 use Rattle.secure_cipher.proofs.pad.pad_data.Tie as tie
 
@@ -12,16 +16,21 @@ returns : tie.Need-returns
 returns c =
     let a = c .before .before .before .args in
     let x = a .«data» .now in
-    (fits-short (padData x) (a .out .now) _ (omega (arith, length-padData x)) (c .if1 .taken), refl)
+    let o = a .out .now in
+    let f = fitting-short (padData x) (length o) _ (omega (arith, length-padData x)) (c .if1 .taken) in
+    (ap sized f, ap (λ (r : Answer (List ℕ)). written r o) f)
 
 returns-2 : tie.Need-returns-2
 returns-2 c =
     let s = c .before .before .before .before .before .before in
     let a = s .before .before .before .before .before .args in
     let x = a .«data» .now in
-    let p = length-padData x in (
-      fits-good (padData x) (a .out .now) _ (omega arith) (s .before .before .if1 .left),
-      pad-made x (a .out .now) _ _ (length x) _ refl (omega arith) (s .before .before .if1 .left) (s .copy .ensures) (c .before .before .zero .ensures),
+    let o = a .out .now in
+    let room = s .before .before .if1 .left in
+    let p = length-padData x in
+    let f = fitting-good (padData x) (length o) _ (omega arith) room in (
+      ap given (omega arith) ∙ ap sized f,
+      pad-made x o _ _ (length x) _ refl (omega arith) room (s .copy .ensures) (c .before .before .zero .ensures) ∙ ap (λ (r : Answer (List ℕ)). written r o) f,
     )
 
 pub pad-data-spec : {M : Type 1} → statement M

@@ -1,12 +1,16 @@
 -- `secure_cipher::pad::pad_mac` meets its contract: nothing is added to whole blocks, and other bytes are padded as data.
 -- Assumes nothing.
-use mathlib.Core.Path.{refl, sym, ap, _∙_}
+use mathlib.Core.Path.{sym, ap, _∙_}
 use native.Mathlib.Omega.{arith}
 use borrow.Author.Needs.{needs}
+use mathlib.Core.List.{List}
+use Prim.Native.Nat.{ℕ}
 use lib.ListN.{length}
+use Rattle.laws.specs.Answer.{Answer, Answer.given}
+use Rattle.laws.specs.Buffer.{sized, written}
 use Rattle.laws.specs.Over.{write}
 use Rattle.secure_cipher.specs.Pad.{padMac}
-use Rattle.secure_cipher.proofs.PadLaws.{padMac-whole, padMac-part, fits-short, fits-good}
+use Rattle.secure_cipher.proofs.PadLaws.{padMac-whole, padMac-part, fitting-short, fitting-good}
 use Rattle.secure_cipher.proofs.pad.pad_mac.Statement.{statement}
 use Rattle.secure_cipher.proofs.pad.pad_mac.Tie as tie
 
@@ -20,7 +24,9 @@ returns-2 : tie.Need-returns-2
 returns-2 c =
     let a = c .before .before .before .before .args in
     let x = a .«data» .now in
-    (fits-short (padMac x) (a .out .now) (length x) (sym (ap length (padMac-whole x (omega arith)))) (c .if2 .taken), refl)
+    let o = a .out .now in
+    let f = fitting-short (padMac x) (length o) (length x) (sym (ap length (padMac-whole x (omega arith)))) (c .if2 .taken) in
+    (ap sized f, ap (λ (r : Answer (List ℕ)). written r o) f)
 
 returns-3 : tie.Need-returns-3
 returns-3 c =
@@ -28,7 +34,10 @@ returns-3 c =
     let a = s .before .before .before .before .before .before .args in
     let x = a .«data» .now in
     let e = padMac-whole x (omega arith) in
-    (fits-good (padMac x) (a .out .now) (length x) (sym (ap length e)) (s .before .before .if2 .left), s .copy .ensures ∙ ap (write (a .out .now) 0) (sym e))
+    let o = a .out .now in
+    let n = sym (ap length e) in
+    let f = fitting-good (padMac x) (length o) (length x) n (s .before .before .if2 .left) in
+    (ap given n ∙ ap sized f, s .copy .ensures ∙ ap (write o 0) (sym e) ∙ ap (λ (r : Answer (List ℕ)). written r o) f)
 
 pub pad-mac-spec : {M : Type 1} → statement M
 pad-mac-spec =

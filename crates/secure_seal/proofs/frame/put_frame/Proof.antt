@@ -9,7 +9,7 @@ use Rattle.laws.proofs.Lists.{part-length}
 use borrow.Rule.Slice.PartMut.{putMid}
 use Rattle.secure_seal.specs.Seal.{dataLenFor, askedOf}
 use Rattle.secure_seal.proofs.FrameWritten.{frame-put, data-steps, mac-few}
-use Rattle.secure_seal.proofs.SealLaws.{length-dataLen}
+use Rattle.secure_seal.proofs.SealLaws.{payload-fits}
 use Rattle.secure_cipher.specs.Mac.{Mac}
 use borrow.Author.Needs.{needs}
 use Rattle.secure_seal.proofs.frame.put_frame.Statement.{statement}
@@ -32,7 +32,7 @@ add-t23 c =
     let t = l .total-len .result in
     let d : p .put-data .result ≤ length (a .«data» .now) + 1 = rw (p .put-data .ensures .1) (data-steps (a .encrypt) (a .keys .«s_enc») (a .start) (a .«data» .now)) in
     let e : m .cbc-mac .result .calls ≤ t - 6 + 1 = mac-few _ _ _ _ (t - 6) (ap (λ (x : Mac). x .steps) (m .cbc-mac .ensures)) in
-    omega (arith, d, e, length-dataLen (a .encrypt) (a .«data» .now), l .total-len .ensures, s .pre)
+    omega (arith, d, e, payload-fits (a .encrypt) (a .«data» .now), l .total-len .ensures, s .pre)
 
 returns : tie.Need-returns
 returns c =

@@ -3,7 +3,7 @@
 use mathlib.Core.Path.{_≡_, ap, _∙_}
 use Prim.Native.Nat.{ℕ}
 use lib.ListN.{length}
-use Rattle.secure_cipher.specs.Pad.{lengthAnswer}
+use Rattle.refusal.specs.Reading.{lengthAnswer}
 use Rattle.secure_seal.specs.Seal.{Asked, askedOf, totalOf, frameTest}
 use Rattle.secure_seal.proofs.SealCases.{tests-passed, told-not-secure, told-refused, told-done}
 use borrow.Author.Needs.{needs}

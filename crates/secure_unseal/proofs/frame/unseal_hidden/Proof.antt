@@ -8,7 +8,7 @@ use lib.ListN.{length}
 use Rattle.laws.specs.Blocks.{Block}
 use Rattle.laws.specs.Bytes.{Bytes}
 use Rattle.packet_parse.specs.Frame.{fields}
-use Rattle.secure_cipher.specs.Pad.{lengthAnswer}
+use Rattle.refusal.specs.Reading.{lengthAnswer}
 use Rattle.secure_unseal.specs.Unseal.{Checked, check}
 use Rattle.secure_unseal.specs.Parts.{checked}
 use Rattle.secure_unseal.proofs.Cases.{stops, hidden-no, hidden-right, hidden-wrong}

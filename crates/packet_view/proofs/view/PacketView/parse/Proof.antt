@@ -69,7 +69,7 @@ Found 𝓤 H A mem run = tripleOf 𝓤 H A places.signature (places.spec 𝓤 H 
 
 -- the places' fields
 abbrev placeFields : Places → Values (P.the-type .parts)
-placeFields p = (p .verdict, (p .addr, (p .ctrl, (p .block, (p .code, (p .trailer, (p .len, (p .«block_at», (p .«block_len», (p .«data_at», (p .«data_len», (p .«mac_at», (p .«mac_len», tt)))))))))))))
+placeFields p = (p .outcome, (p .addr, (p .ctrl, (p .block, (p .code, (p .trailer, (p .len, (p .«block_at», (p .«block_len», (p .«data_at», (p .«data_len», (p .«mac_at», (p .«mac_len», tt)))))))))))))
 
 module _ {M : Type 1} (𝓤 : URA M) (H : Heap 𝓤) (A : Atoms 𝓤) (W : Given 𝓤 H A) (mem : Memory → SProp 𝓤) (run : Routine → Fun 𝓤) (κ : Lft) (q : Share) (s : RefT (List ℕ)) where
   -- the machine value that s has

@@ -1,10 +1,10 @@
 -- `outcome_c` meets its contract: yes, or the refusal.
 -- Assumes nothing.
 use mathlib.Core.Path.{sym, ap, _∙_}
-use Rattle.ffi.specs.Sessions.{cOutcome}
+use Rattle.ffi.specs.Answers.{cOutcome}
 use borrow.Author.Needs.{needs}
-use Rattle.ffi.proofs.session.outcome_c.Statement.{statement}
-use Rattle.ffi.proofs.session.outcome_c.Tie as tie
+use Rattle.ffi.proofs.answer.outcome_c.Statement.{statement}
+use Rattle.ffi.proofs.answer.outcome_c.Tie as tie
 
 returns : tie.Need-returns
 returns c = c .given .ensures ∙ sym (ap cOutcome (c .before .enum-told .given .1))

@@ -2,10 +2,10 @@
 -- Assumes nothing.
 use mathlib.Core.Path.{sym, ap, _∙_}
 use Rattle.ffi.specs.Answers.{cAnswer}
-use Rattle.secure_cipher.specs.Pad.{lengthAnswer}
+use Rattle.refusal.specs.Reading.{lengthAnswer}
 use borrow.Author.Needs.{needs}
-use Rattle.ffi.proofs.cipher.length_c.Statement.{statement}
-use Rattle.ffi.proofs.cipher.length_c.Tie as tie
+use Rattle.ffi.proofs.answer.length_c.Statement.{statement}
+use Rattle.ffi.proofs.answer.length_c.Tie as tie
 
 returns : tie.Need-returns
 returns c = c .given .ensures ∙ sym (ap cAnswer (ap lengthAnswer (c .before .before .a .given .1)))
