@@ -122,19 +122,18 @@ ruleset cancelling = (sums, ⊕-self, ⊕-back, no-terms)
 
 -- the coefficients of the products of the two matrices, one way and the other: 1 and 0
 module _ (v : ℕ) (h : v < 256) where
-  one : 14 • (2 • v) ⊕ 11 • v ⊕ 13 • v ⊕ 9 • (3 • v) ≡ v
-  one = simp (products, xtime-lt) (simp cancelling)
+  forth : (14 • (2 • v) ⊕ 11 • v ⊕ 13 • v ⊕ 9 • (3 • v) ≡ v)
+      × (14 • (3 • v) ⊕ 11 • (2 • v) ⊕ 13 • v ⊕ 9 • v ≡ 0)
+      × (14 • v ⊕ 11 • (3 • v) ⊕ 13 • (2 • v) ⊕ 9 • v ≡ 0)
+      × (14 • v ⊕ 11 • v ⊕ 13 • (3 • v) ⊕ 9 • (2 • v) ≡ 0)
+  forth = (
+    simp (products, xtime-lt) (simp cancelling),
+    simp (products, xtime-lt) (simp cancelling),
+    simp (products, xtime-lt) (simp cancelling),
+    simp (products, xtime-lt) (simp cancelling),
+  )
 
-  none1 : 14 • (3 • v) ⊕ 11 • (2 • v) ⊕ 13 • v ⊕ 9 • v ≡ 0
-  none1 = simp (products, xtime-lt) (simp cancelling)
-
-  none2 : 14 • v ⊕ 11 • (3 • v) ⊕ 13 • (2 • v) ⊕ 9 • v ≡ 0
-  none2 = simp (products, xtime-lt) (simp cancelling)
-
-  none3 : 14 • v ⊕ 11 • v ⊕ 13 • (3 • v) ⊕ 9 • (2 • v) ≡ 0
-  none3 = simp (products, xtime-lt) (simp cancelling)
-
-  -- the way back: `simp` looks for the bounds of x v, x x v and x x x v among what is bound
+  -- `simp` looks for the bounds of x v, x x v and x x x v among what is bound
   back : (2 • (14 • v) ⊕ 3 • (9 • v) ⊕ 13 • v ⊕ 11 • v ≡ v)
       × (2 • (11 • v) ⊕ 3 • (14 • v) ⊕ 9 • v ⊕ 13 • v ≡ 0)
       × (2 • (13 • v) ⊕ 3 • (11 • v) ⊕ 14 • v ⊕ 9 • v ≡ 0)
@@ -161,7 +160,7 @@ unmix-mix a b c d ha hb hc hd =
     (11 • a) (11 • (2 • b)) (11 • (3 • c)) (11 • d)
     (13 • a) (13 • b) (13 • (2 • c)) (13 • (3 • d))
     (9 • (3 • a)) (9 • b) (9 • c) (9 • (2 • d))
-    ∙ ap₂ _⊕_ (ap₂ _⊕_ (ap₂ _⊕_ (one a ha) (none1 b hb)) (none2 c hc)) (none3 d hd)
+    ∙ ap₂ _⊕_ (ap₂ _⊕_ (ap₂ _⊕_ (forth a ha .0) (forth b hb .1)) (forth c hc .2)) (forth d hd .3)
     ∙ simp no-terms
 
 pub mix-unmix : (a b c d : ℕ) → a < 256 → b < 256 → c < 256 → d < 256

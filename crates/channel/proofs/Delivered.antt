@@ -24,8 +24,7 @@ use Rattle.secure_session.specs.declared.session.State.{State}
 use Rattle.secure_session.specs.declared.session.State.the-variants.{Secure}
 use Rattle.secure_seal.specs.declared.frame.Direction.{Direction}
 use Rattle.secure_seal.specs.Seal.{Asked, Sealable, dataLenFor, sealedFrame}
-use Rattle.secure_seal.proofs.SealLaws.{stepsFor, type-mac, type-encrypted, payload-fits, plain-len, hidden-len, plain-data, hidden-data, length-body}
-use Rattle.secure_seal.proofs.SealLaws.{data-alone, body-alone, mac-alone, reads-alone}
+use Rattle.secure_seal.proofs.SealLaws.{stepsFor, type-mac, type-encrypted, payload-fits, plain-len, hidden-len, plain-data, hidden-data, length-body, data-alone, body-alone, mac-alone, reads-alone}
 use Rattle.secure_unseal.specs.Unseal.{Place, UnsealRun, unsealRun}
 use Rattle.secure_unseal.specs.Lookup.{payloadShown}
 use Rattle.secure_unseal.proofs.UnsealLaws.{plain-opens, hidden-opens, plain-shown, hidden-shown}

@@ -31,7 +31,7 @@ onLine (refused n vs) o = []
 unfoldable pub carried : ℕ → Wire → List ℕ → List ℕ
 carried ty w x =
     let b = buildOf (wireParts ty w x) (length (w .out)) in
-    payloadOf (onLine (sized b) (written b (w .out)))
+    payloadOf (onLine (sized b) (written (w .out) b))
 
 -- within limits and buffers, for a message of n bytes
 pub record WireFits (w : Wire) (n : ℕ) : Type 0 where

@@ -8,11 +8,11 @@ use lib.Dec.{ltb}
 use Rattle.laws.specs.Answer.{Answer, Answer.given, Answer.refused, refuseIf}
 use Rattle.laws.proofs.Answers.{given-inj}
 use Rattle.refusal.specs.declared.Refusal.{Refusal}
+use Rattle.refusal.specs.declared.Outcome.{Outcome}
 use Rattle.refusal.specs.Paper.{refusalOf, numberOf, valuesOf}
 use Rattle.packet_head.specs.Header.{sqnOf}
 use Rattle.packet_head.specs.declared.header.Address.{Address}
 use Rattle.packet_head.specs.declared.header.Sqn.{Sqn}
-use Rattle.refusal.specs.declared.Outcome.{Outcome}
 use Rattle.secure_seal.specs.Seal.{askedOf, frameTest, SealDone, sealOf, sealTold}
 use Rattle.secure_seal.specs.declared.frame.Direction.{Direction}
 use Rattle.secure_seal.specs.declared.frame.Sealed.{Sealed}

@@ -1,8 +1,8 @@
 -- What the cipher's calls answer, as C has it.
 -- Assumes nothing.
+use Rattle.refusal.specs.Reading.{lengthAnswer}
 use Rattle.secure_keys.specs.declared.crypto.SessionKeys.{SessionKeys}
 use Rattle.secure_cipher.specs.declared.cipher.Ciphered.{Ciphered}
-use Rattle.refusal.specs.Reading.{lengthAnswer}
 use Rattle.secure_cipher.specs.Cbc.{Done}
 use Rattle.secure_cipher.specs.Mac.{Mac}
 use Rattle.ffi.specs.Answers.{cAnswer}

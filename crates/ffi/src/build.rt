@@ -98,7 +98,7 @@ pub extern "C" fn malstrink_build(
     out: &mut [u8],
 ) -> CAnswer
     ensures { λ r. ⌜ r ≡ cAnswer (sized (buildArg p (now (block .entry)) (now («data» .entry)) (macArg mac) (length (now (out .entry))))) ⌝ }
-    ensures { λ _. ⌜ now (out .exit) ≡ written (buildArg p (now (block .entry)) (now («data» .entry)) (macArg mac) (length (now (out .entry)))) (now (out .entry)) ⌝ }
+    ensures { λ _. ⌜ now (out .exit) ≡ written (now (out .entry)) (buildArg p (now (block .entry)) (now («data» .entry)) (macArg mac) (length (now (out .entry)))) ⌝ }
 {
     match ask(p) {
         AskedPacket::Good(w) => length_c(packet_build::build(w, block, data, mac_of(mac), out)),
@@ -115,7 +115,7 @@ pub extern "C" fn malstrink_build_body(
     out: &mut [u8],
 ) -> CAnswer
     ensures { λ r. ⌜ r ≡ cAnswer (sized (bodyArg p (now (block .entry)) (now («data» .entry)) (length (now (out .entry))))) ⌝ }
-    ensures { λ _. ⌜ now (out .exit) ≡ written (bodyArg p (now (block .entry)) (now («data» .entry)) (length (now (out .entry)))) (now (out .entry)) ⌝ }
+    ensures { λ _. ⌜ now (out .exit) ≡ written (now (out .entry)) (bodyArg p (now (block .entry)) (now («data» .entry)) (length (now (out .entry)))) ⌝ }
 {
     match ask(p) {
         AskedPacket::Good(w) => length_c(packet_build::build_body(w, block, data, out)),

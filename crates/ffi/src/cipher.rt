@@ -39,7 +39,7 @@ pub(crate) fn ciphered_c(c: Ciphered) -> CCiphered
 #[no_mangle]
 pub extern "C" fn malstrink_pad_mac(data: &[u8], out: &mut [u8]) -> CAnswer
     ensures { λ r. ⌜ r ≡ cAnswer (sized (fitting (padMac (now («data» .entry))) (length (now (out .entry))))) ⌝ }
-    ensures { λ _. ⌜ now (out .exit) ≡ written (fitting (padMac (now («data» .entry))) (length (now (out .entry)))) (now (out .entry)) ⌝ }
+    ensures { λ _. ⌜ now (out .exit) ≡ written (now (out .entry)) (fitting (padMac (now («data» .entry))) (length (now (out .entry)))) ⌝ }
 {
     length_c(secure_cipher::pad_mac(data, out))
 }
@@ -47,7 +47,7 @@ pub extern "C" fn malstrink_pad_mac(data: &[u8], out: &mut [u8]) -> CAnswer
 #[no_mangle]
 pub extern "C" fn malstrink_pad_data(data: &[u8], out: &mut [u8]) -> CAnswer
     ensures { λ r. ⌜ r ≡ cAnswer (sized (fitting (padData (now («data» .entry))) (length (now (out .entry))))) ⌝ }
-    ensures { λ _. ⌜ now (out .exit) ≡ written (fitting (padData (now («data» .entry))) (length (now (out .entry)))) (now (out .entry)) ⌝ }
+    ensures { λ _. ⌜ now (out .exit) ≡ written (now (out .entry)) (fitting (padData (now («data» .entry))) (length (now (out .entry)))) ⌝ }
 {
     length_c(secure_cipher::pad_data(data, out))
 }

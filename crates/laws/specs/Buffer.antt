@@ -1,4 +1,4 @@
--- A call that writes bytes to the front of a buffer that the caller lends (docs/RULES.md, 1).
+-- A call that writes bytes to the front of a buffer that the caller lends (docs/RULES.md, 1.3 and 1.4).
 -- Assumes nothing.
 use mathlib.Core.List.{List}
 use Prim.Native.Nat.{ℕ}
@@ -11,7 +11,7 @@ abbrev pub sized : Answer (List ℕ) → Answer ℕ
 sized (given b) = given (length b)
 sized (refused n vs) = refused n vs
 
--- what the buffer holds in the end: those bytes at its front, or what it held
-abbrev pub written : Answer (List ℕ) → List ℕ → List ℕ
-written (given b) o = write o 0 b
-written (refused n vs) o = o
+-- what a buffer o holds in the end: those bytes at its front, or what it held
+abbrev pub written : List ℕ → Answer (List ℕ) → List ℕ
+written o (given b) = write o 0 b
+written o (refused n vs) = o

@@ -15,8 +15,7 @@ use Rattle.laws.specs.Answer.{Answer.given, refuseIf, andThen}
 use Rattle.packet_head.specs.Header.{Control, controlOf, ctrlByte}
 use Rattle.packet_head.specs.Block.{hasMac, scsOf, scbOf}
 use Rattle.packet_head.specs.Trailer.{Tail, Tail.checksum, Tail.crc, trailerLen, macLen}
-use Rattle.laws.proofs.Answers.{holds-given}
-use Rattle.laws.proofs.Answers.{choose-true, choose-false}
+use Rattle.laws.proofs.Answers.{holds-given, choose-true, choose-false}
 use Rattle.packet_parse.specs.Trailer.{crcGot, sumGot, trailerOf}
 use Rattle.packet_parse.specs.Frame.{Fields, BlockAt, BlockAt.noBlock, BlockAt.blockAt, MacAt, macAt, lenOf, headOf, fieldsOf, partsOf, frameOf, parseOf}
 use Rattle.packet_build.specs.Build as made

@@ -65,7 +65,7 @@ testOf c there due mac block dat have =
     (refuseIf (ltb have (totalN (c .1) there mac block dat)) 18 (totalN (c .1) there mac block dat ∷ have ∷ [])
     (given (totalN (c .1) there mac block dat)))))))
 
--- of a block, `mac` bytes of MAC and `dat` bytes of data
+-- the tests of a block, `mac` bytes of MAC and `dat` bytes of data
 abbrev pub partsTest : Control → FrameBlock → ℕ → ℕ → ℕ → Answer ℕ
 partsTest c b mac dat have = testOf c (present b) (due b) mac (blockN b) dat have
 

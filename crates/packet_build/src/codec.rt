@@ -67,7 +67,7 @@ pub fn build(
     out: &mut [u8],
 ) -> LengthAnswer
     ensures { λ r. ⌜ lengthAnswer r ≡ sized (buildOf (partsGiven w (now (block .entry)) (now («data» .entry)) mac) (length (now (out .entry)))) ⌝ }
-    ensures { λ _. ⌜ now (out .exit) ≡ written (buildOf (partsGiven w (now (block .entry)) (now («data» .entry)) mac) (length (now (out .entry)))) (now (out .entry)) ⌝ }
+    ensures { λ _. ⌜ now (out .exit) ≡ written (now (out .entry)) (buildOf (partsGiven w (now (block .entry)) (now («data» .entry)) mac) (length (now (out .entry)))) ⌝ }
 {
     match test_parts(w, block, data, mac.size(), out.len()) {
         Tested::Total(total, ctrl) => {
@@ -83,7 +83,7 @@ pub fn build(
 // end of data, where the whole frame would have room. The second is build, given the MAC.
 pub fn build_body(w: PacketBuilder, block: &[u8], data: &[u8], out: &mut [u8]) -> LengthAnswer
     ensures { λ r. ⌜ lengthAnswer r ≡ sized (bodyOf (partsGiven w (now (block .entry)) (now («data» .entry)) GivenMac.Absent) (length (now (out .entry)))) ⌝ }
-    ensures { λ _. ⌜ now (out .exit) ≡ written (bodyOf (partsGiven w (now (block .entry)) (now («data» .entry)) GivenMac.Absent) (length (now (out .entry)))) (now (out .entry)) ⌝ }
+    ensures { λ _. ⌜ now (out .exit) ≡ written (now (out .entry)) (bodyOf (partsGiven w (now (block .entry)) (now («data» .entry)) GivenMac.Absent) (length (now (out .entry)))) ⌝ }
 {
     match test_parts(w, block, data, 4, out.len()) {
         Tested::Total(total, ctrl) => LengthAnswer::Of(put_body(out, w, ctrl, block, data, total)),

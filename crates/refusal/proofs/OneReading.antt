@@ -1,4 +1,5 @@
--- A refusal has one reading: its number and its values give it back, so two that read alike are the same. So have the shared answers.
+-- A refusal has one reading: its number and its values give it back, so two that read alike are the same. The answers
+-- that crates share have one too.
 -- Assumes nothing.
 use mathlib.Core.Path.{_≡_, refl, sym, ap, _∙_}
 use mathlib.Core.Bool.{cond}

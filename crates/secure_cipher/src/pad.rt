@@ -12,7 +12,7 @@ use refusal::Refusal;
 // For the MAC: nothing is added at a multiple of 16.
 pub fn pad_mac(data: &[u8], out: &mut [u8]) -> LengthAnswer
     ensures { λ r. ⌜ lengthAnswer r ≡ sized (fitting (padMac (now («data» .entry))) (length (now (out .entry)))) ⌝ }
-    ensures { λ _. ⌜ now (out .exit) ≡ written (fitting (padMac (now («data» .entry))) (length (now (out .entry)))) (now (out .entry)) ⌝ }
+    ensures { λ _. ⌜ now (out .exit) ≡ written (now (out .entry)) (fitting (padMac (now («data» .entry))) (length (now (out .entry)))) ⌝ }
 {
     let n = data.len();
     if n % 16 != 0 {
@@ -31,7 +31,7 @@ pub fn pad_mac(data: &[u8], out: &mut [u8]) -> LengthAnswer
 // For encrypted data: always at least the 80.
 pub fn pad_data(data: &[u8], out: &mut [u8]) -> LengthAnswer
     ensures { λ r. ⌜ lengthAnswer r ≡ sized (fitting (padData (now («data» .entry))) (length (now (out .entry)))) ⌝ }
-    ensures { λ _. ⌜ now (out .exit) ≡ written (fitting (padData (now («data» .entry))) (length (now (out .entry)))) (now (out .entry)) ⌝ }
+    ensures { λ _. ⌜ now (out .exit) ≡ written (now (out .entry)) (fitting (padData (now («data» .entry))) (length (now (out .entry)))) ⌝ }
 {
     let n = data.len();
     let need = n / 16 * 16 + 16;

@@ -1,10 +1,7 @@
 -- `malstrink_build` meets its contract: the packet is made, then built (proofs/Args).
 -- Assumes nothing.
 use mathlib.Core.Path.{sym, ap, _∙_}
-use Prim.Native.Nat.{ℕ}
-use mathlib.Core.List.{List}
 use lib.ListN.{length}
-use Rattle.laws.specs.Answer.{Answer}
 use Rattle.laws.specs.Buffer.{sized, written}
 use Rattle.refusal.specs.Paper.{numberOf, valuesOf}
 use Rattle.packet_build.specs.Build.{partsGiven}
@@ -27,7 +24,7 @@ returns c =
     let e = sym (ap (partsArg (a .p) l d) (m .ensures)) ∙ sym (c .before .before .before .before .before .before .before .before .before .ask .ensures l d (m .result)) ∙ ap (λ (x : AskedPacket). askedParts x l d (m .result)) (w .1) in
     let f = sym (build-asked (a .p) l d _ (length o) (partsGiven (w .0 .0) l d (m .result)) e) in
     let g = c .before .before .before .build .ensures in
-    (c .length-c .ensures ∙ ap cAnswer (g .0 ∙ ap sized f), g .1 ∙ ap (λ (x : Answer (List ℕ)). written x o) f)
+    (c .length-c .ensures ∙ ap cAnswer (g .0 ∙ ap sized f), g .1 ∙ ap (written o) f)
 
 returns-2 : tie.Need-returns-2
 returns-2 c =
@@ -40,7 +37,7 @@ returns-2 c =
     let m = kindOfMac (a .mac) in
     let e = ap (partsArg (a .p) l d) (mac-bytes (a .mac)) ∙ sym (c .before .before .before .before .ask .ensures l d m) ∙ ap (λ (x : AskedPacket). askedParts x l d m) (w .1) in
     let f = sym (build-not-asked (a .p) l d _ (length o) (numberOf r) (valuesOf r) e) in
-    (c .refused .ensures ∙ ap cAnswer (ap sized f), ap (λ (x : Answer (List ℕ)). written x o) f)
+    (c .refused .ensures ∙ ap cAnswer (ap sized f), ap (written o) f)
 
 pub malstrink-build-spec : {M : Type 1} → statement M
 malstrink-build-spec =

@@ -1,10 +1,7 @@
 -- `malstrink_build_body` meets its contract: the packet is made, then built up to its data (proofs/Args).
 -- Assumes nothing.
 use mathlib.Core.Path.{sym, ap, _∙_}
-use Prim.Native.Nat.{ℕ}
-use mathlib.Core.List.{List}
 use lib.ListN.{length}
-use Rattle.laws.specs.Answer.{Answer}
 use Rattle.laws.specs.Buffer.{sized, written}
 use Rattle.refusal.specs.Paper.{numberOf, valuesOf}
 use Rattle.packet_build.specs.declared.codec.GivenMac.{GivenMac}
@@ -27,7 +24,7 @@ returns c =
     let e = sym (c .before .before .before .before .before .before .before .before .ask .ensures l d GivenMac.Absent) ∙ ap (λ (x : AskedPacket). askedParts x l d GivenMac.Absent) (w .1) in
     let f = sym (body-asked (a .p) l d (length o) (partsGiven (w .0 .0) l d GivenMac.Absent) e) in
     let g = c .before .before .before .build-body .ensures in
-    (c .length-c .ensures ∙ ap cAnswer (g .0 ∙ ap sized f), g .1 ∙ ap (λ (x : Answer (List ℕ)). written x o) f)
+    (c .length-c .ensures ∙ ap cAnswer (g .0 ∙ ap sized f), g .1 ∙ ap (written o) f)
 
 returns-2 : tie.Need-returns-2
 returns-2 c =
@@ -39,7 +36,7 @@ returns-2 c =
     let r = w .0 .0 in
     let e = sym (c .before .before .before .before .ask .ensures l d GivenMac.Absent) ∙ ap (λ (x : AskedPacket). askedParts x l d GivenMac.Absent) (w .1) in
     let f = sym (body-not-asked (a .p) l d (length o) (numberOf r) (valuesOf r) e) in
-    (c .refused .ensures ∙ ap cAnswer (ap sized f), ap (λ (x : Answer (List ℕ)). written x o) f)
+    (c .refused .ensures ∙ ap cAnswer (ap sized f), ap (written o) f)
 
 pub malstrink-build-body-spec : {M : Type 1} → statement M
 malstrink-build-body-spec =

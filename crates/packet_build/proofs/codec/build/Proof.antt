@@ -1,7 +1,6 @@
 -- The tests as the paper has them; then body, MAC and trailer are written one after the other (proofs/Frames).
 -- Assumes nothing.
 use mathlib.Core.Path.{_≡_, refl, sym, ap, _∙_}
-use mathlib.Core.List.{List}
 use Prim.Native.Nat.{ℕ}
 use borrow.Author.Needs.{needs}
 use native.Mathlib.Omega.{arith}
@@ -71,7 +70,7 @@ returns c =
       ap given (omega (arith, n .ensures .0, m .ensures .0, t .ensures .0, bytes-length p total)) ∙ ap sized e,
       frame-written p o total (left d) _ _ (n .result) (m .result) (n .ensures .0) (m .ensures .0)
           (signed-written p o total (left d) _ _ (n .result) (n .ensures .0) (n .ensures .1) (m .ensures .1)) (t .ensures .1)
-          ∙ ap (λ (a : Answer (List ℕ)). written a o) e,
+          ∙ ap (written o) e,
     )
 
 returns-2 : tie.Need-returns-2
@@ -82,7 +81,7 @@ returns-2 c =
     let r = c .before .e .given .0 .0 in
     let h = with-refused (p .ctrl) (tests s) r (sym (ap tested (c .before .e .given .1)) ∙ answered (c .before .before .before)) in
     let e = sym (build-refused p (length o) (numberOf r) (valuesOf r) h) in
-    (ap sized e, ap (λ (a : Answer (List ℕ)). written a o) e)
+    (ap sized e, ap (written o) e)
 
 pub build-spec : {M : Type 1} → statement M
 build-spec =

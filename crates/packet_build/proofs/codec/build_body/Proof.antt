@@ -1,7 +1,6 @@
 -- The tests as the paper has them, for four bytes of MAC; then the body is written.
 -- Assumes nothing.
 use mathlib.Core.Path.{_≡_, sym, ap, _∙_}
-use mathlib.Core.List.{List}
 use Prim.Native.Nat.{ℕ}
 use borrow.Author.Needs.{needs}
 use native.Mathlib.Omega.{arith}
@@ -49,7 +48,7 @@ returns c =
     let n = c .before .before .put-body in
     let e = sym (body-given p (length o) total (passed d .0)) in (
       ap given (n .ensures .0 ∙ sym (body-length (p .addr) (p .ctrl) (p .block) (p .code) (p .«data») total)) ∙ ap sized e,
-      n .ensures .1 ∙ ap (λ (a : Answer (List ℕ)). written a o) e,
+      n .ensures .1 ∙ ap (written o) e,
     )
 
 returns-2 : tie.Need-returns-2
@@ -60,7 +59,7 @@ returns-2 c =
     let r = c .before .e .given .0 .0 in
     let h = with-refused (p .ctrl) (tests s) r (sym (ap tested (c .before .e .given .1)) ∙ c .before .before .before .test-parts .ensures) in
     let e = sym (body-refused p (length o) (numberOf r) (valuesOf r) h) in
-    (ap sized e, ap (λ (a : Answer (List ℕ)). written a o) e)
+    (ap sized e, ap (written o) e)
 
 pub build-body-spec : {M : Type 1} → statement M
 build-body-spec =

@@ -1,11 +1,9 @@
 -- `secure_cipher::pad::pad_data` meets its contract: the bytes, 80 and zeros, one after the other.
 -- Assumes nothing.
 use mathlib.Core.Path.{refl, ap, _∙_}
-use mathlib.Core.List.{List}
-use Prim.Native.Nat.{ℕ}
 use native.Mathlib.Omega.{arith}
 use lib.ListN.{length, length-set}
-use Rattle.laws.specs.Answer.{Answer, Answer.given}
+use Rattle.laws.specs.Answer.{Answer.given}
 use Rattle.laws.specs.Buffer.{sized, written}
 use Rattle.secure_cipher.specs.Pad.{padData}
 use Rattle.secure_cipher.proofs.PadLaws.{length-padData, fitting-short, fitting-good, pad-made}
@@ -18,7 +16,7 @@ returns c =
     let x = a .«data» .now in
     let o = a .out .now in
     let f = fitting-short (padData x) (length o) _ (omega (arith, length-padData x)) (c .if1 .taken) in
-    (ap sized f, ap (λ (r : Answer (List ℕ)). written r o) f)
+    (ap sized f, ap (written o) f)
 
 returns-2 : tie.Need-returns-2
 returns-2 c =
@@ -30,7 +28,7 @@ returns-2 c =
     let p = length-padData x in
     let f = fitting-good (padData x) (length o) _ (omega arith) room in (
       ap given (omega arith) ∙ ap sized f,
-      pad-made x o _ _ (length x) _ refl (omega arith) room (s .copy .ensures) (c .before .before .zero .ensures) ∙ ap (λ (r : Answer (List ℕ)). written r o) f,
+      pad-made x o _ _ (length x) _ refl (omega arith) room (s .copy .ensures) (c .before .before .zero .ensures) ∙ ap (written o) f,
     )
 
 pub pad-data-spec : {M : Type 1} → statement M

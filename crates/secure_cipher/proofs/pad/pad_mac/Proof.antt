@@ -3,10 +3,8 @@
 use mathlib.Core.Path.{sym, ap, _∙_}
 use native.Mathlib.Omega.{arith}
 use borrow.Author.Needs.{needs}
-use mathlib.Core.List.{List}
-use Prim.Native.Nat.{ℕ}
 use lib.ListN.{length}
-use Rattle.laws.specs.Answer.{Answer, Answer.given}
+use Rattle.laws.specs.Answer.{Answer.given}
 use Rattle.laws.specs.Buffer.{sized, written}
 use Rattle.laws.specs.Over.{write}
 use Rattle.secure_cipher.specs.Pad.{padMac}
@@ -26,7 +24,7 @@ returns-2 c =
     let x = a .«data» .now in
     let o = a .out .now in
     let f = fitting-short (padMac x) (length o) (length x) (sym (ap length (padMac-whole x (omega arith)))) (c .if2 .taken) in
-    (ap sized f, ap (λ (r : Answer (List ℕ)). written r o) f)
+    (ap sized f, ap (written o) f)
 
 returns-3 : tie.Need-returns-3
 returns-3 c =
@@ -37,7 +35,7 @@ returns-3 c =
     let o = a .out .now in
     let n = sym (ap length e) in
     let f = fitting-good (padMac x) (length o) (length x) n (s .before .before .if2 .left) in
-    (ap given n ∙ ap sized f, s .copy .ensures ∙ ap (write o 0) (sym e) ∙ ap (λ (r : Answer (List ℕ)). written r o) f)
+    (ap given n ∙ ap sized f, s .copy .ensures ∙ ap (write o 0) (sym e) ∙ ap (written o) f)
 
 pub pad-mac-spec : {M : Type 1} → statement M
 pad-mac-spec =

@@ -1,6 +1,6 @@
 -- `secure_seal::frame::put_head` meets its contract: the eight bytes are the body without data.
 -- Assumes nothing.
-use mathlib.Core.Path.{_∙_}
+use mathlib.Core.Path.{_∙_, sym}
 use mathlib.Core.Bool.{true}
 use mathlib.Core.List.{[]}
 use Rattle.packet_head.specs.Block.{typeOf}
@@ -8,7 +8,6 @@ use Rattle.packet_build.specs.Build.{FrameBlock.scb, bodyBytes}
 use Rattle.packet_build.proofs.Sizes.{body-length}
 use Rattle.secure_seal.proofs.Places.{front-write}
 use Rattle.secure_seal.proofs.FrameWritten.{head-bytes}
-use mathlib.Core.Path.{sym}
 use native.Mathlib.Omega.{arith}
 use lib.Seq.{length-take-le}
 use borrow.Author.Needs.{needs}
