@@ -1,6 +1,6 @@
 // Sealing a frame, unsealing one, and the test of where a payload stands.
 ghost use mathlib.Core.Path.{_≡_};
-ghost use Rattle.secure_seal.specs.Core.{refusedWith};
+ghost use Rattle.secure_seal.specs.Parts.{refusedWith};
 ghost use Rattle.secure_seal.specs.Seal.{sealOf, sealTold};
 ghost use Rattle.secure_unseal.specs.Unseal.{placeAnswer};
 ghost use Rattle.secure_unseal.specs.Lookup.{shownTest};

@@ -20,7 +20,7 @@ use Rattle.secure_cipher.specs.Mac.{Mac, macOf}
 use Rattle.secure_cipher.proofs.CbcLaws.{steps-hide}
 use Rattle.secure_cipher.proofs.MacLaws.{mac-steps}
 use Rattle.secure_seal.specs.Seal.{typeFor, dataLenFor, dataOf, Asked, totalOf, partsWith, bodyWith, sealedFrame}
-use Rattle.secure_seal.specs.Core.{Put}
+use Rattle.secure_seal.specs.Parts.{Put}
 use Rattle.secure_seal.proofs.Places.{part-write}
 use Rattle.secure_seal.proofs.SealLaws.{sealedData}
 

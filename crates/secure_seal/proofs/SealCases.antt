@@ -15,7 +15,7 @@ use Rattle.secure_cipher.specs.declared.mac.ChainMac.{ChainMac}
 use Rattle.secure_session.specs.Session.{isSecure, sendFrom, sent}
 use Rattle.secure_session.specs.declared.session.Session.{Session}
 use Rattle.secure_seal.specs.Seal.{Asked, totalOf, sealedFrame, frameTest, sealing, sealRun, SealDone, afterSeal, sealedOn, sealOf, sealTold}
-use Rattle.secure_seal.specs.Core.{Put, refusedWith}
+use Rattle.secure_seal.specs.Parts.{Put, refusedWith}
 use Rattle.secure_seal.specs.declared.frame.Sealed.{Sealed}
 
 abbrev sealDone : Answer ℕ → Session → List ℕ → ℕ → SealDone

@@ -9,7 +9,7 @@ ghost use Rattle.packet_build.specs.Build.{FrameBlock.scb, bodyBytes, tailBytes
 ghost use Rattle.packet_head.specs.Block.{typeOf};
 ghost use Rattle.refusal.specs.Reading.{lengthAnswer};
 ghost use Rattle.secure_seal.specs.Seal.{typeFor, dataLenFor, dataOf, askedOf, sealedFrame, frameTest, sealOf, sealTold};
-ghost use Rattle.secure_seal.specs.Core.{Put, refusedWith};
+ghost use Rattle.secure_seal.specs.Parts.{Put, refusedWith};
 use packet_head::Address;
 use packet_head::ScsType;
 use packet_head::Sqn;

@@ -4,9 +4,9 @@ use Prim.Native.Nat.{ℕ}
 use mathlib.Core.Path.{_≡_}
 use mathlib.Core.List.{List}
 use Rattle.laws.specs.Over.{write}
+use Rattle.refusal.specs.declared.LengthAnswer.{LengthAnswer}
 use Rattle.refusal.specs.declared.Refusal.{Refusal}
 use Rattle.secure_cipher.specs.declared.mac.ChainMac.{ChainMac}
-use Rattle.refusal.specs.declared.LengthAnswer.{LengthAnswer}
 use Rattle.secure_session.specs.declared.session.Session.{Session}
 use Rattle.secure_seal.specs.Seal.{SealedFrame}
 use Rattle.secure_seal.specs.declared.frame.Sealed.{Sealed}
