@@ -1,5 +1,5 @@
 -- Bytes held in one number, the first of them lowest: how the code holds two columns of the state at a time. FIPS 197 has nothing
--- of this, and no promise of a public call speaks of it.
+-- of this. The promises of `pack`, `mix` and `unmix` speak of it, which `aes` calls; no promise of `aes` to its callers does.
 -- Assumes nothing.
 use mathlib.Core.List.{List, [], _∷_}
 use Prim.Native.Nat.{ℕ, zero, suc, _+_, _*_, _/_, _%_}
