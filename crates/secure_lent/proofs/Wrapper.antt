@@ -1,6 +1,7 @@
 -- The walk of a call on a session that is lent, whatever else it is passed (`Passed.antt`) and whatever it answers (`Results.antt`). A walk names an entry of its context by its place, so all the other parameters are one entry.
 --     lent             the wrapper's MIR, with the callee's key k. A wrapper's own `code.function` is this by computation
---     Φ                what both contracts say, of the session at entry, what is passed, and the answer with the session after it
+--     Φ                what the callee's contract says, of the session at entry, what is passed, and the answer with the session after it
+--     Ψ, follows       what the wrapper's own contract says, and that it follows from Φ: the one place where a contract that is not true is refused
 --     meets            where the callee meets `Callee`, the wrapper meets its own contract
 -- Assumes nothing.
 use mathlib.Core.Path.{refl, sym, subst}
@@ -31,7 +32,7 @@ use denote.Triple.Entry.{Args, onEntry}
 use denote.Triple.Spec.{Meets, tripleOf}
 use denote.Triple.End.{all, outs}
 use denote.Triple.Walked.{Stays, stay-ref, walkOf, onExit, hasOf, goes-ref, Walks, ends-at, walked, walk-meets}
-use denote.Triple.Clauses.{Clauses, Ended, Lasts, closing, ensured, lasts}
+use denote.Triple.Clauses.{Clauses, Ended, Lasts, AtExit, atExit, closing, ensured, lasts}
 use denote.Exit.{yes}
 use Rattle.secure_session.specs.declared.session.Session.{Session}
 use Rattle.secure_session.proofs.session.Session as T
@@ -41,24 +42,42 @@ use Rattle.secure_lent.proofs.Locals.{lets, pastLocals, LocalBlocks, en
 use Rattle.secure_lent.proofs.Passed.{Passed, inner, outer, slots, tys, OfValues, atValues, Values, value-words, spells, outer-vals, inner-vals, Related, to-callee, ends, same-clause, tells-all, saids, fits-said, goes-said, handed, returned}
 use Rattle.secure_lent.proofs.Passing.{temps, temp-words, lends, operands, as-if, pass-all, lends-all, reads-all}
 
-module _ {n : ℕ} (ps : List (Passed n)) {S R : RattleType} {σ ρ : Ty} (B : Result S R σ ρ) (k : Name) {M : Type 1} (𝓤 : URA M) (Φ : Session → OfValues ps (S .Denot → SProp 𝓤)) where
-  abbrev pub ended : Ended
+module _ {n : ℕ} (ps : List (Passed n)) {S R : RattleType} {σ ρ : Ty} (B : Result S R σ ρ) {M : Type 1} (𝓤 : URA M) where
+  abbrev ended : Ended
   ended = record { signature = record { lifetimes = suc n; outlives = []; params = RefMutOf (0 ∷ []) tt (plain (λ κs. T.the-row)) (λ κs. tt) ∷ slots outer ps; result = plain (λ κs. R) }; kept = (yes, all yes (slots outer ps)) }
 
   abbrev by-value : Ended
   by-value = record { signature = record { lifetimes = n; outlives = []; params = plain (λ κs. T.the-row) ∷ slots inner ps; result = plain (λ κs. S) }; kept = (yes, all yes (slots inner ps)) }
 
-  abbrev stayed : Stays (ended .signature .params) (ended .kept)
+  -- what the callee says, and what the wrapper does
+  abbrev Told : Type 2
+  Told = Session → OfValues ps (S .Denot → SProp 𝓤)
+
+  abbrev Owed : Type 2
+  Owed = (κs : Lfts (suc n)) → Args (ended .signature) κs → R .Denot → AtExit ended κs → SProp 𝓤
+
+  -- the second follows from the first, of the same values
+  abbrev Follows : Told → Owed → Type 1
+  Follows Φ Ψ = (κs : Lfts (suc n)) (a : Args (ended .signature) κs) (r : R .Denot) (e : AtExit ended κs) → ent 𝓤 (atValues outer ps κs (Φ (now (a .0))) (a .1) (e .1) (B .both r (now (e .0)))) (Ψ κs a r e)
+
+  abbrev callee : Told → Clauses 𝓤 by-value
+  callee Φ = λ κs a. record { ghost = Unit {0}; requires = λ g. emp 𝓤; ensures = λ g r e. atValues inner ps κs (Φ (a .0)) (a .1) (e .1) r }
+
+  abbrev pub Callee : Told → (H : Heap 𝓤) (A : Atoms 𝓤) → Contract 𝓤
+  Callee Φ H A = tripleOf 𝓤 H A (by-value .signature) (closing 𝓤 H A by-value (callee Φ))
+
+module _ {n : ℕ} (ps : List (Passed n)) {S R : RattleType} {σ ρ : Ty} (B : Result S R σ ρ) (k : Name) {M : Type 1} (𝓤 : URA M) (Φ : Told ps B 𝓤) (Ψ : Owed ps B 𝓤) (follows : Follows ps B 𝓤 Φ Ψ) where
+  abbrev lender : Ended
+  lender = ended ps B 𝓤
+
+  abbrev called : Ended
+  called = by-value ps B 𝓤
+
+  abbrev stayed : Stays (lender .signature .params) (lender .kept)
   stayed = (stay-ref (0 ∷ []) tt (plain (λ _. T.the-row)), saids (slots outer ps))
 
-  abbrev clauses : Clauses 𝓤 ended
-  clauses = λ κs a. record { ghost = Unit {0}; requires = λ g. emp 𝓤; ensures = λ g r e. atValues outer ps κs (Φ (now (a .0))) (a .1) (e .1) (B .both r (now (e .0))) }
-
-  abbrev callee : Clauses 𝓤 by-value
-  callee = λ κs a. record { ghost = Unit {0}; requires = λ g. emp 𝓤; ensures = λ g r e. atValues inner ps κs (Φ (a .0)) (a .1) (e .1) r }
-
-  abbrev pub Callee : (H : Heap 𝓤) (A : Atoms 𝓤) → Contract 𝓤
-  Callee H A = tripleOf 𝓤 H A (by-value .signature) (closing 𝓤 H A by-value callee)
+  abbrev clauses : Clauses 𝓤 lender
+  clauses = λ κs a. record { ghost = Unit {0}; requires = λ g. emp 𝓤; ensures = λ g r e. Ψ κs a r e }
 
   -- the locals: the answer, the session's reference, the other parameters; then what the callee returns, the session's copy, and what is lent again
   abbrev whole : ℕ
@@ -100,11 +119,11 @@ module _ {n : ℕ} (ps : List (Passed n)) {S R : RattleType} {σ ρ : Ty} (B : R
     at-temps = record { rest = []; from = from-next (from-next from-whole) }
 
   module _ (H : Heap 𝓤) (A : Atoms 𝓤) (W : Given 𝓤 H A) (κs : Lfts (suc n)) (qs : Shares (suc n)) (x : RefT Session) (a : Values κs ps) where
-    abbrev bound : walkOf 𝓤 H A ended stayed clauses .Ghost
+    abbrev bound : walkOf 𝓤 H A lender stayed clauses .Ghost
     bound = ((κs, qs, tt, (x, a), (ptr-vals x, outer-vals κs ps a)), tt)
 
     abbrev Post : Val → SProp 𝓤
-    Post = walkOf 𝓤 H A ended stayed clauses .post bound
+    Post = walkOf 𝓤 H A lender stayed clauses .post bound
 
     -- the lent session, where its value is s: what is known of that, its borrow, and the token that opens it
     abbrev Known : Session → Item 𝓤
@@ -124,48 +143,54 @@ module _ {n : ℕ} (ps : List (Passed n)) {S R : RattleType} {σ ρ : Ty} (B : R
     Owned = ‵ (owns (typesAt (slots outer ps) κs) a (outer-vals κs ps a))
 
     -- the call: what it is passed, and what it asks
-    abbrev inside : Args (by-value .signature) (κs .1)
+    abbrev inside : Args (called .signature) (κs .1)
     inside = (now x, to-callee κs ps a)
 
-    abbrev to : Callee H A .Ghost
+    abbrev to : Callee ps B 𝓤 Φ H A .Ghost
     to = ((κs .1, qs .1, tt, inside, (T′.lowered (now x) ∷ [], inner-vals κs ps a)), tt)
 
-    asked : Is T.the-row (now x) (T′.lowered (now x) ∷ []) → ent 𝓤 (⋆ 𝓤 H A (raw Tokens ∷ Owned ∷ [])) (Callee H A .pre to)
+    asked : Is T.the-row (now x) (T′.lowered (now x) ∷ []) → ent 𝓤 (⋆ 𝓤 H A (raw Tokens ∷ Owned ∷ [])) (Callee ps B 𝓤 Φ H A .pre to)
     asked g = qed W (raw Tokens ∷ Owned ∷ []) ∵ move ! (1 ∷ []) $ use1 W (‵ (owns (typesAt (slots inner ps) (κs .1)) (to-callee κs ps a) (inner-vals κs ps a))) (handed 𝓤 H A W κs ps a) $
         owned ! T.the-row (Is T.the-row) (LL.makes T.the-type T′.the-plain 𝓤 H A) (now x) _ g $ fjoin ! $ nothing ! $ move ! (2 ∷ 1 ∷ []) $ join ! $ frame ! $ done !
 
     -- what the callee says of what it returned, at the last values zs, and what the wrapper owes
     abbrev Said : S .Denot → SProp 𝓤
-    Said r = ensured 𝓤 H A by-value callee (κs .1) inside tt r
+    Said r = ensured 𝓤 H A called (callee ps B 𝓤 Φ) (κs .1) inside tt r
 
-    module _ (r : S .Denot) (zs : Lasts by-value (κs .1) inside) where
+    module _ (r : S .Denot) (zs : Lasts called (κs .1) inside) where
       abbrev Says : S .Denot → SProp 𝓤
       Says = atValues inner ps (κs .1) (Φ (now x)) (to-callee κs ps a) (outs (κs .1) (slots inner ps) (all yes (slots inner ps)) (to-callee κs ps a) (zs .1))
 
-      abbrev last : Lasts ended κs (x, a)
+      abbrev last : Lasts lender κs (x, a)
       last = (B .session r, ends κs ps a (zs .1))
 
-      abbrev Owes : SProp 𝓤
-      Owes = atValues outer ps κs (Φ (now x)) a (outs κs (slots outer ps) (all yes (slots outer ps)) a (last .1)) (B .both (B .answer r) (B .session r))
+      abbrev left : AtExit lender κs
+      left = atExit lender κs (x, a) last
 
+      abbrev Owes : SProp 𝓤
+      Owes = Ψ κs (x, a) (B .answer r) left
+
+      -- the callee's fact, at the wrapper's values, and what follows from it
       says-owes : ent 𝓤 (Says r) Owes
-      says-owes = subst (λ (f : S .Denot → SProp 𝓤). ent 𝓤 (Says r) (f (B .both (B .answer r) (B .session r)))) (same-clause κs ps (Φ (now x)) a (zs .1)) (subst (λ (r′ : S .Denot). ent 𝓤 (Says r) (Says r′)) (sym (B .apart r)) (id⊢ 𝓤 (Says r)))
+      says-owes = via 𝓤 _
+          (subst (λ (f : S .Denot → SProp 𝓤). ent 𝓤 (Says r) (f (B .both (B .answer r) (B .session r)))) (same-clause κs ps (Φ (now x)) a (zs .1)) (subst (λ (r′ : S .Denot). ent 𝓤 (Says r) (Says r′)) (sym (B .apart r)) (id⊢ 𝓤 (Says r))))
+          (follows κs (x, a) (B .answer r) left)
 
     exits : (r : S .Denot) → Is S r (B .whole .low r ∷ []) → ent 𝓤 (⋆ 𝓤 H A (Known (B .session r) ∷ Borrow ∷ Token ∷ raw Tokens ∷ raw (Said r) ∷ [])) (Post (B .part .low (B .answer r)))
     exits r is =
         qed W (Known (B .session r) ∷ Borrow ∷ Token ∷ raw Tokens ∷ raw (Said r) ∷ []) ∵
-        move ! (4 ∷ []) $ use1 W (some (λ (zs : Lasts by-value (κs .1) inside). ‵ (lasts by-value (κs .1) inside zs) ⊛ raw (Says r zs r))) (id⊢ 𝓤 _) $ pick ! (λ zs. split ! $ fsplit ! $ drop ! $
+        move ! (4 ∷ []) $ use1 W (some (λ (zs : Lasts called (κs .1) inside). ‵ (lasts called (κs .1) inside zs) ⊛ raw (Says r zs r))) (id⊢ 𝓤 _) $ pick ! (λ zs. split ! $ fsplit ! $ drop ! $
         use1 W (‵ (hasOf κs (slots outer ps) (all yes (slots outer ps)) (saids (slots outer ps)) a (last r zs .1) (outer-vals κs ps a))) (returned 𝓤 H A W κs ps a (zs .1) (outer-vals κs ps a)) $ move ! (1 ∷ []) $ use1 W (raw (Owes r zs)) (says-owes r zs) $
-        suffices ! _ (via 𝓤 _ (comm∗ 𝓤 (Owes r zs) (onExit 𝓤 H A ended stayed κs qs (bound .0 .4) (B .part .low (B .answer r)) (B .answer r) (x, a) (last r zs)))
-        (ends-at 𝓤 H A ended stayed clauses W bound (B .part .low (B .answer r)) (B .answer r) (last r zs) (tt, fits-said κs (slots outer ps) a (last r zs .1)))) $ frame ! $
+        suffices ! _ (via 𝓤 _ (comm∗ 𝓤 (Owes r zs) (onExit 𝓤 H A lender stayed κs qs (bound .0 .4) (B .part .low (B .answer r)) (B .answer r) (x, a) (last r zs)))
+        (ends-at 𝓤 H A lender stayed clauses W bound (B .part .low (B .answer r)) (B .answer r) (last r zs) (tt, fits-said κs (slots outer ps) a (last r zs .1)))) $ frame ! $
         -- [what was said of the others; what is known of the session; its borrow; its token; the other tokens]
         move ! (3 ∷ 4 ∷ []) $ join ! $ frame ! $ move ! (1 ∷ 2 ∷ []) $ feqI ! (List Val) (ptr-vals x) (ptr-vals x) refl $ fjoin3 ! $ fjoin ! $
         owned ! R (Is R) (B .makes 𝓤 H A W) (B .answer r) _ (B .answer-is r is) $ move ! (1 ∷ 0 ∷ []) $ done !)
 
-    module _ (C : Calls 𝓤 H) (Λ : Loops 𝓤 H) (fm : FmC 𝓤 H (W .laws) C) (known : Triple 𝓤 (C k) (Callee H A)) where
-      walk : Related κs ps a → ent 𝓤 (onEntry 𝓤 H A (ended .signature) κs qs (x, a) (ptr-vals x, outer-vals κs ps a)) (WpFn 𝓤 H C Λ lent (flat (typesAt (ended .signature .params) κs) (ptr-vals x, outer-vals κs ps a)) Post)
+    module _ (C : Calls 𝓤 H) (Λ : Loops 𝓤 H) (fm : FmC 𝓤 H (W .laws) C) (known : Triple 𝓤 (C k) (Callee ps B 𝓤 Φ H A)) where
+      walk : Related κs ps a → ent 𝓤 (onEntry 𝓤 H A (lender .signature) κs qs (x, a) (ptr-vals x, outer-vals κs ps a)) (WpFn 𝓤 H C Λ lent (flat (typesAt (lender .signature .params) κs) (ptr-vals x, outer-vals κs ps a)) Post)
       walk are =
-          qed W ((Token ⊛ raw Tokens) ∷ ‵ (owns (typesAt (ended .signature .params) κs) (x, a) (ptr-vals x, outer-vals κs ps a)) ∷ []) ∵ enter ! C Λ lent (flat (typesAt (ended .signature .params) κs) (ptr-vals x, outer-vals κs ps a)) _ $
+          qed W ((Token ⊛ raw Tokens) ∷ ‵ (owns (typesAt (lender .signature .params) κs) (x, a) (ptr-vals x, outer-vals κs ps a)) ∷ []) ∵ enter ! C Λ lent (flat (typesAt (lender .signature .params) κs) (ptr-vals x, outer-vals κs ps a)) _ $
           alloc1 ! (λ l₀. alloc1 ! (λ l₁. alloc-all ! (tys ps) (λ bs. alloc1 ! (λ m. alloc1 ! (λ s. alloc-all ! (temps ps) (λ cs. alloc0 ! $ params1 ! $
           pass1 ! (init ! 8 refl (tt, tt)) $ move ! (6 ∷ []) $ pass-all κs ! (after m s cs) ps a bs are $
           -- what is owned is taken apart
@@ -175,8 +200,8 @@ module _ {n : ℕ} (ps : List (Passed n)) {S R : RattleType} {σ ρ : Ty} (B : R
           -- the slices that are altered are lent again
           move ! (5 ∷ 6 ∷ []) $ lends-all κs ! ps a bs cs are (at-others l₀ l₁ bs m s cs) (at-temps l₀ l₁ bs m s cs) $
           -- [the other parameters; what they are lent again by; the session, which is open; its copy; its reference; the tokens; what is owned; …]
-          move ! (5 ∷ 6 ∷ []) $ use2 W (raw (Callee H A .pre to)) (asked g) $ move ! (0 ∷ 3 ∷ 5 ∷ 8 ∷ 12 ∷ []) $
-          calls-stores B ! fm (now x) (Callee H A) known to Tokens Said (λ v. id⊢ 𝓤 _) refl refl (from-here (from-whole l₀ l₁ bs m s cs))
+          move ! (5 ∷ 6 ∷ []) $ use2 W (raw (Callee ps B 𝓤 Φ H A .pre to)) (asked g) $ move ! (0 ∷ 3 ∷ 5 ∷ 8 ∷ 12 ∷ []) $
+          calls-stores B ! fm (now x) (Callee ps B 𝓤 Φ H A) known to Tokens Said (λ v. id⊢ 𝓤 _) refl refl (from-here (from-whole l₀ l₁ bs m s cs))
           (as-if ! (λ G. move ! (5 ∷ 6 ∷ [])) (λ G. move ! (2 ∷ 3 ∷ 4 ∷ 5 ∷ 6 ∷ 0 ∷ 1 ∷ []))
           (and-then ! (load ! (near ! (from-here (from-next (from-whole l₀ l₁ bs m s cs))) (stop !)) (look ! 7 refl)) (reads-all κs ! ps a bs cs (at-others l₀ l₁ bs m s cs) (at-temps l₀ l₁ bs m s cs)))) (λ r is.
           -- [what is known of the session; its borrow; its token; the other tokens; what the callee said; the locals …]
@@ -186,9 +211,9 @@ module _ {n : ℕ} (ps : List (Passed n)) {S R : RattleType} {σ ρ : Ty} (B : R
           by ! (exits r is)))))))))
 
   module _ (H : Heap 𝓤) (A : Atoms 𝓤) (W : Given 𝓤 H A) where
-    walks : (C : Calls 𝓤 H) (Λ : Loops 𝓤 H) → FmC 𝓤 H (W .laws) C → Triple 𝓤 (C k) (Callee H A) → Walks 𝓤 H A ended stayed (WpFn 𝓤 H C Λ lent) clauses
-    walks C Λ fm known = walked 𝓤 H A ended stayed clauses (WpFn 𝓤 H C Λ lent) (λ κs. (ptr-vals, spells κs ps)) (λ κs. (mut-tells (named 0) (κs .0) T.the-row, tells-all κs ps))
+    walks : (C : Calls 𝓤 H) (Λ : Loops 𝓤 H) → FmC 𝓤 H (W .laws) C → Triple 𝓤 (C k) (Callee ps B 𝓤 Φ H A) → Walks 𝓤 H A lender stayed (WpFn 𝓤 H C Λ lent) clauses
+    walks C Λ fm known = walked 𝓤 H A lender stayed clauses (WpFn 𝓤 H C Λ lent) (λ κs. (ptr-vals, spells κs ps)) (λ κs. (mut-tells (named 0) (κs .0) T.the-row, tells-all κs ps))
         (λ κs qs bounds a _ are. via 𝓤 _ (fst∗ 𝓤 _ (emp 𝓤)) (walk H A W κs qs (a .0) (a .1) C Λ fm known (are .1)))
 
-    pub meets : (𝓣 : Tables 𝓤 H) → Triple 𝓤 (𝓣 .C k) (Callee H A) → Meets 𝓤 H A (ended .signature) (WpFn 𝓤 H (𝓣 .C) (𝓣 .Λ) lent) (closing 𝓤 H A ended clauses)
-    meets 𝓣 known = walk-meets 𝓤 H A ended stayed W (goes-ref 𝓤 H A W (suc n) 0 tt (plain (λ _. T.the-row)), goes-said 𝓤 H A W (slots outer ps)) clauses (WpFn 𝓤 H (𝓣 .C) (𝓣 .Λ) lent) (WpFn-mono 𝓤 H (W .laws) 𝓣 lent) (walks (𝓣 .C) (𝓣 .Λ) (fmOf 𝓤 H (W .laws) 𝓣) known)
+    pub meets : (𝓣 : Tables 𝓤 H) → Triple 𝓤 (𝓣 .C k) (Callee ps B 𝓤 Φ H A) → Meets 𝓤 H A (lender .signature) (WpFn 𝓤 H (𝓣 .C) (𝓣 .Λ) lent) (closing 𝓤 H A lender clauses)
+    meets 𝓣 known = walk-meets 𝓤 H A lender stayed W (goes-ref 𝓤 H A W (suc n) 0 tt (plain (λ _. T.the-row)), goes-said 𝓤 H A W (slots outer ps)) clauses (WpFn 𝓤 H (𝓣 .C) (𝓣 .Λ) lent) (WpFn-mono 𝓤 H (W .laws) 𝓣 lent) (walks (𝓣 .C) (𝓣 .Λ) (fmOf 𝓤 H (W .laws) 𝓣) known)
