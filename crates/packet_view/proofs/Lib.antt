@@ -1,3 +1,4 @@
+pub mod Stretches
 pub mod PartLaws
 pub mod Thin
 pub mod Copied

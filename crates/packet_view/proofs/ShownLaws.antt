@@ -8,13 +8,14 @@ use native.Mathlib.Omega.{arith}
 use lib.ListN.{length, take, drop}
 use denote.Ref.{RefT, now}
 use Rattle.laws.specs.Answer.{Answer, Answer.given, Answer.refused}
+use Rattle.packet_view.specs.Stretch.{stretchIn}
 use Rattle.laws.proofs.Answers.{Holds}
 use Rattle.laws.proofs.Lists.{part-length}
 use Rattle.packet_parse.specs.Frame.{Fields, BlockAt, BlockAt.noBlock, BlockAt.blockAt, MacAt, MacAt.noMac, MacAt.macFrom, parseOf}
 use Rattle.packet_parse.proofs.Within.{Inside, BlockInside, MacInside, parse-inside, accepted-inside}
-use Rattle.packet_view.specs.View.{Part, Shown, placesOf, viewed, partOf, bytesAt, blockIn, dataIn, macIn, blockDataOf, payloadOf, frameMacOf}
+use Rattle.packet_view.specs.View.{Part, Shown, placesOf, viewed, partOf, partStart, partSeen, bytesAt, startAt, blockIn, dataIn, macIn, blockDataOf, payloadOf, frameMacOf, blockDataSeen, payloadSeen, frameMacSeen}
 use Rattle.packet_view.specs.declared.view.PacketView.{PacketView}
-use Rattle.packet_view.proofs.PartLaws.{part-in}
+use Rattle.packet_view.proofs.PartLaws.{part-in, start-in}
 
 -- ---- the three parts of an accepted frame lie inside it
 
@@ -70,25 +71,30 @@ module _ (p : Fields → Part) (q : Shown → Part) (at : PlaceOf p q) where
   place-shows s (given F) i = ap (λ (y : Part). partOf s (y .0) (y .1)) (at .accepted F) ∙ part-in s (p F .0) (p F .1) (at .fits (length s) F i)
   place-shows s (refused n vs) i = ap (λ (y : Part). partOf s (y .0) (y .1)) (at .refused n vs) ∙ part-in s 0 0 (omega arith)
 
+  -- where it begins
+  place-starts : (s : List ℕ) (x : Answer Fields) → Holds (Inside (length s)) x → partStart s (q (placesOf x) .0) (q (placesOf x) .1) ≡ startAt p x
+  place-starts s (given F) i = ap (λ (y : Part). partStart s (y .0) (y .1)) (at .accepted F) ∙ start-in s (p F .0) (p F .1) (at .fits (length s) F i)
+  place-starts s (refused n vs) i = ap (λ (y : Part). partStart s (y .0) (y .1)) (at .refused n vs) ∙ start-in s 0 0 (omega arith)
+
   -- the part of a view of s
-  view-shows : (s : RefT (List ℕ)) (r : PacketView) → viewed r ≡ (s, placesOf (parseOf (now s)))
-      → partOf (now (viewed r .0)) (q (viewed r .1) .0) (q (viewed r .1) .1) ≡ bytesAt (now s) p (parseOf (now s))
-  view-shows s r e =
-      ap (λ (y : RefT (List ℕ) × Shown). partOf (now (y .0)) (q (y .1) .0) (q (y .1) .1)) e
-      ∙ place-shows (now s) (parseOf (now s)) (parse-inside (now s))
+  view-shows : (s : RefT (List ℕ)) (w : PacketView) → viewed w ≡ (s, placesOf (parseOf (now s)))
+      → partSeen (viewed w .0) (q (viewed w .1) .0) (q (viewed w .1) .1) ≡ stretchIn s (startAt p (parseOf (now s))) (bytesAt (now s) p (parseOf (now s)))
+  view-shows s w e =
+      ap (λ (y : RefT (List ℕ) × Shown). partSeen (y .0) (q (y .1) .0) (q (y .1) .1)) e
+      ∙ (λ i. stretchIn s (place-starts (now s) (parseOf (now s)) (parse-inside (now s)) i) (place-shows (now s) (parseOf (now s)) (parse-inside (now s)) i))
 
-module _ (s : RefT (List ℕ)) (r : PacketView) (e : viewed r ≡ (s, placesOf (parseOf (now s)))) where
-  pub block-data-shown : partOf (now (r .frame)) (r .«block_at») (r .«block_len») ≡ blockDataOf (now s)
+module _ (s : RefT (List ℕ)) (w : PacketView) (e : viewed w ≡ (s, placesOf (parseOf (now s)))) where
+  pub block-data-shown : partSeen (w .frame) (w .«block_at») (w .«block_len») ≡ blockDataSeen s
   unfolding blockDataOf
-  block-data-shown = view-shows blockPartOf (λ x. x .block) block-placed s r e
+  block-data-shown = view-shows blockPartOf (λ x. x .block) block-placed s w e
 
-  pub payload-shown : partOf (now (r .frame)) (r .«data_at») (r .«data_len») ≡ payloadOf (now s)
+  pub payload-shown : partSeen (w .frame) (w .«data_at») (w .«data_len») ≡ payloadSeen s
   unfolding payloadOf
-  payload-shown = view-shows dataIn (λ x. x .payload) payload-placed s r e
+  payload-shown = view-shows dataIn (λ x. x .payload) payload-placed s w e
 
-  pub mac-shown : partOf (now (r .frame)) (r .«mac_at») (r .«mac_len») ≡ frameMacOf (now s)
+  pub mac-shown : partSeen (w .frame) (w .«mac_at») (w .«mac_len») ≡ frameMacSeen s
   unfolding frameMacOf
-  mac-shown = view-shows macPartOf (λ x. x .mac) mac-placed s r e
+  mac-shown = view-shows macPartOf (λ x. x .mac) mac-placed s w e
 
 -- ---- after a refusal
 

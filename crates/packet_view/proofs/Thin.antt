@@ -1,8 +1,9 @@
 -- The thin methods of a flat `PacketView` that answer a part of its frame: one walk for all. Such a method takes the frame and two numbers out of the struct, calls `part` on them, and returns what that returned.
 --     Number           a field of the struct that is a `usize`: its place, how it is read off a record and off a machine value, and that it fits
 --     thin i j         the method's MIR, with the places of the two fields. A method's own `code.function` is this by computation
---     clauses a l      its contract: the result is the part of the frame from a on, l bytes long
---     thin-meets       where `part` meets its contract, the method meets `partClauses a l`
+--     partClauses P    its contract: the result keeps the promise P. A method's own contract is this, and P is read off it
+--     PartKeeps P a l  what `part` answers, at a and l of the frame, keeps P
+--     thin-meets       where `part` meets its contract and keeps P, the method meets `partClauses P`
 -- The struct is Copy: what it owns is had twice, one copy is kept whole for the exit, and of the other what frame owns goes to the callee, beside the lifetime's token, which comes back. What the numbers own is made anew.
 -- Assumes nothing.
 use mathlib.Core.Path.{_≡_, refl, sym, subst}
@@ -32,7 +33,7 @@ use denote.RattleType.{RattleType, owns}
 use denote.Laws.{Is, shows}
 use denote.Plain.{uint-makes}
 use denote.Builtin.{u8, usize}
-use denote.Ref.{RefT, NamedLft, now}
+use denote.Ref.{RefT, NamedLft}
 use denote.Signature.{namedLft}
 use denote.Slice.{sliceTy, sliceVal, ShrSlice, shr-slice-lawful}
 use denote.Steps.{owned, peeks, heard, nothing}
@@ -48,7 +49,8 @@ use denote.Triple.Spec.{Meets, tripleOf}
 use denote.Triple.Walked.{says, Stays, stay-none, walkOf, goes-none, Walks, ends-at, walked, walk-meets}
 use denote.Exit.{yes}
 use denote.Triple.Clauses.{Clauses, closing, ensured, lasts}
-use Rattle.packet_view.specs.View.{partOf}
+use Rattle.packet_view.specs.Stretch.{stretchOf}
+use Rattle.packet_view.specs.View.{partSeen}
 use Rattle.packet_view.specs.declared.view.PacketView.{PacketView}
 use Rattle.packet_view.proofs.view.PacketView as T
 use Rattle.packet_view.proofs.view.PacketView.Laws as T′
@@ -106,8 +108,16 @@ thin i j = record {
       (seq (call #part (copy (place 2 []) ∷ copy (place 3 []) ∷ copy (place 4 []) ∷ []) (place 0 [])) return)));
 }
 
-abbrev pub partClauses : Number → Number → {M : Type 1} (𝓤 : URA M) → Clauses 𝓤 method.ended
-partClauses a l 𝓤 = λ κs x. record { ghost = Unit {0}; requires = λ g. emp 𝓤; ensures = λ g r e. fact 𝓤 (now r ≡ partOf (now (x .0 .frame)) (a .of (x .0)) (l .of (x .0))) }
+-- what a method promises of its answer, by what it is passed
+abbrev pub MethodPromise : Type 1
+MethodPromise = PacketView × Unit {0} → RefT (List ℕ) → Type 0
+
+abbrev pub partClauses : MethodPromise → {M : Type 1} (𝓤 : URA M) → Clauses 𝓤 method.ended
+partClauses P 𝓤 = λ κs x. record { ghost = Unit {0}; requires = λ g. emp 𝓤; ensures = λ g r e. fact 𝓤 (P x r) }
+
+-- what `part` answers, at a and l of the frame, keeps the promise
+abbrev pub PartKeeps : MethodPromise → Number → Number → Type 0
+PartKeeps P a l = (d : PacketView) (r : RefT (List ℕ)) → stretchOf r ≡ partSeen (d .frame) (a .of d) (l .of d) → P (d, tt) r
 
 -- the callee's contract
 abbrev pub PartContract : {M : Type 1} (𝓤 : URA M) (H : Heap 𝓤) (A : Atoms 𝓤) (mem : Memory → SProp 𝓤) (run : Routine → Fun 𝓤) → Contract 𝓤
@@ -120,7 +130,7 @@ B κs = T.the-row (namedLft 1 0 tt κs)
 abbrev stayed : Stays (method.ended .signature .params) (method.ended .kept)
 stayed = (stay-none B yes, tt)
 
-module _ (a l : Number) {M : Type 1} (𝓤 : URA M) (H : Heap 𝓤) (A : Atoms 𝓤) (W : Given 𝓤 H A) (mem : Memory → SProp 𝓤) (run : Routine → Fun 𝓤) (κ : Lft) (q : Share) (d : PacketView) where
+module _ (P : MethodPromise) (a l : Number) {M : Type 1} (𝓤 : URA M) (H : Heap 𝓤) (A : Atoms 𝓤) (W : Given 𝓤 H A) (mem : Memory → SProp 𝓤) (run : Routine → Fun 𝓤) (κ : Lft) (q : Share) (d : PacketView) where
   abbrev α : NamedLft
   α = namedLft 1 0 tt (κ, tt)
 
@@ -132,7 +142,7 @@ module _ (a l : Number) {M : Type 1} (𝓤 : URA M) (H : Heap 𝓤) (A : Atoms �
   v = sliceVal (d .frame .ptr) (length (d .frame .now))
 
   abbrev Post : Val → SProp 𝓤
-  Post = walkOf 𝓤 H A method.ended stayed (partClauses a l 𝓤) .post (((κ, tt), (q, tt), tt, (d, tt), (mach ∷ [], tt)), tt)
+  Post = walkOf 𝓤 H A method.ended stayed (partClauses P 𝓤) .post (((κ, tt), (q, tt), tt, (d, tt), (mach ∷ [], tt)), tt)
 
   abbrev Own : Fml
   Own = B (κ, tt) .own d (mach ∷ [])
@@ -171,17 +181,21 @@ module _ (a l : Number) {M : Type 1} (𝓤 : URA M) (H : Heap 𝓤) (A : Atoms �
       move ! (1 ∷ []) $ drop ! $ nothing ! $ owned ! usize (Is usize) (uint-makes 𝓤 H A W w64) (l .of d) _ (refl, l .small α d _ is) $ fjoin ! $ owned ! usize (Is usize) (uint-makes 𝓤 H A W w64) (a .of d) _ (refl, a .small α d _ is) $ fjoin ! $ move ! (1 ∷ 0 ∷ []) $ fjoin ! $
       move ! (2 ∷ 0 ∷ []) $ use2 W (raw (PartContract 𝓤 H A mem run .pre to)) asked $ frame ! $ done !)
 
-  -- of the callee's `ensured`, the clause alone: it has no `&mut`, so what is said of last values is dropped
-  said : (r : RefT (List ℕ)) → ent 𝓤 (ensured 𝓤 H A fun.ended (fun.clauses 𝓤 H A mem run) (κ, tt) (d .frame, (a .of d, (l .of d, tt))) tt r) (fact 𝓤 (now r ≡ partOf (now (d .frame)) (a .of d) (l .of d)))
-  said r = exE 𝓤 _ (λ ws. snd∗ 𝓤 (sem 𝓤 H A (lasts fun.ended (κ, tt) (d .frame, (a .of d, (l .of d, tt))) ws)) (fact 𝓤 (now r ≡ partOf (now (d .frame)) (a .of d) (l .of d))))
+  -- what `part` promises
+  abbrev Cut : RefT (List ℕ) → Type 0
+  Cut r = stretchOf r ≡ partSeen (d .frame) (a .of d) (l .of d)
 
-  exits : (r : RefT (List ℕ)) (u : Val) → now r ≡ partOf (now (d .frame)) (a .of d) (l .of d) → ent 𝓤 (⋆ 𝓤 H A (‵ (ShrSlice (named 0) κ u8 .own r (u ∷ [])) ∷ (‵ (flft κ q) ⊛ ‵ ftrue) ∷ ‵ Own ∷ [])) (Post u)
+  -- of the callee's `ensured`, the clause alone: it has no `&mut`, so what is said of last values is dropped
+  said : (r : RefT (List ℕ)) → ent 𝓤 (ensured 𝓤 H A fun.ended (fun.clauses 𝓤 H A mem run) (κ, tt) (d .frame, (a .of d, (l .of d, tt))) tt r) (fact 𝓤 (Cut r))
+  said r = exE 𝓤 _ (λ ws. snd∗ 𝓤 (sem 𝓤 H A (lasts fun.ended (κ, tt) (d .frame, (a .of d, (l .of d, tt))) ws)) (fact 𝓤 (Cut r)))
+
+  exits : (r : RefT (List ℕ)) (u : Val) → P (d, tt) r → ent 𝓤 (⋆ 𝓤 H A (‵ (ShrSlice (named 0) κ u8 .own r (u ∷ [])) ∷ (‵ (flft κ q) ⊛ ‵ ftrue) ∷ ‵ Own ∷ [])) (Post u)
   exits r u e =
       qed W (‵ (ShrSlice (named 0) κ u8 .own r (u ∷ [])) ∷ (‵ (flft κ q) ⊛ ‵ ftrue) ∷ ‵ Own ∷ []) ∵
-      suffices ! _ (ends-at 𝓤 H A method.ended stayed (partClauses a l 𝓤) W (((κ, tt), (q, tt), tt, (d, tt), (mach ∷ [], tt)), tt) u r (tt, tt) (tt, tt)) $ says ! e $
+      suffices ! _ (ends-at 𝓤 H A method.ended stayed (partClauses P 𝓤) W (((κ, tt), (q, tt), tt, (d, tt), (mach ∷ [], tt)), tt) u r (tt, tt) (tt, tt)) $ says ! e $
       move ! (1 ∷ []) $ frame ! $ nothing ! $ move ! (2 ∷ 0 ∷ []) $ fjoin ! $ frame ! $ done !
 
-  module _ (C : Calls 𝓤 H) (Λ : Loops 𝓤 H) (fm : FmC 𝓤 H (W .laws) C) (known : Triple 𝓤 (C #part) (PartContract 𝓤 H A mem run)) where
+  module _ (C : Calls 𝓤 H) (Λ : Loops 𝓤 H) (fm : FmC 𝓤 H (W .laws) C) (known : Triple 𝓤 (C #part) (PartContract 𝓤 H A mem run)) (keeps : PartKeeps P a l) where
     walk : Is (B (κ, tt)) d (mach ∷ []) → ent 𝓤 (onEntry 𝓤 H A method.signature (κ, tt) (q, tt) (d, tt) (mach ∷ [], tt)) (WpFn 𝓤 H C Λ (thin (a .place) (l .place)) (mach ∷ []) Post)
     walk is =
         let wt : Holds (hasTy (T′.mir (named 0)) mach) × WT mach = LL.lawful D L 𝓤 H A W .typed d _ is .0 in
@@ -193,18 +207,18 @@ module _ (a l : Number) {M : Type 1} (𝓤 : URA M) (H : Heap 𝓤) (A : Atoms �
         move ! (10 ∷ []) $ use1 W (raw (PartContract 𝓤 H A mem run .pre to) ⊛ ‵ Own) (apart is) $ split ! $
         calls-at ! fm (PartContract 𝓤 H A mem run) known to (and-then ! (load ! (from ! (stop !)) (look ! 6 refl)) (and-then ! (load ! (from ! (stop !)) (look ! 4 refl)) (and-then ! (load ! (from ! (stop !)) (look ! 2 refl)) (no-more !)))) (λ u.
         use1 W (later (some (λ (r : RefT (List ℕ)). ((‵ (flft κ q) ⊛ ‵ ftrue) ⊛ ‵ (ShrSlice (named 0) κ u8 .own r (u ∷ []))) ⊛ raw (ensured 𝓤 H A fun.ended (fun.clauses 𝓤 H A mem run) (κ, tt) (d .frame, (a .of d, (l .of d, tt))) tt r)))) (id⊢ 𝓤 _) $ await ! tt $ pick ! (λ r.
-        split ! $ move ! (1 ∷ []) $ use1 W (raw (fact 𝓤 (now r ≡ partOf (now (d .frame)) (a .of d) (l .of d)))) (said r) $ heard ! (now r ≡ partOf (now (d .frame)) (a .of d) (l .of d)) (λ e. split ! $ move ! (1 ∷ []) $
+        split ! $ move ! (1 ∷ []) $ use1 W (raw (fact 𝓤 (Cut r))) (said r) $ heard ! (Cut r) (λ e. split ! $ move ! (1 ∷ []) $
         -- [the result; the token; what the struct owns; _4; …; _3; …; _2; …; _1; …; room for _0; …]
         peeks ! (ShrSlice (named 0) κ u8) (Is (ShrSlice (named 0) κ u8)) (shows 𝓤 H A (ShrSlice (named 0) κ u8)) r (u ∷ []) (λ is′.
         land ! (from ! (stop !)) (init ! 11 refl (shr-slice-lawful 𝓤 H A W (named 0) κ u8 .typed r (u ∷ []) is′ .0)) $
         returns ! (look ! 11 refl) $ forget ! 3 refl $ forget ! 5 refl $ forget ! 7 refl $ forget ! 9 refl $ forget ! 11 refl $
-        move ! (11 ∷ 12 ∷ []) $ free1 ! $ move ! (9 ∷ 10 ∷ []) $ free1 ! $ move ! (7 ∷ 8 ∷ []) $ free1 ! $ move ! (5 ∷ 6 ∷ []) $ free1 ! $ move ! (3 ∷ 4 ∷ []) $ free1 ! $ free0 ! $ by ! (exits r u e))))))))))
+        move ! (11 ∷ 12 ∷ []) $ free1 ! $ move ! (9 ∷ 10 ∷ []) $ free1 ! $ move ! (7 ∷ 8 ∷ []) $ free1 ! $ move ! (5 ∷ 6 ∷ []) $ free1 ! $ move ! (3 ∷ 4 ∷ []) $ free1 ! $ free0 ! $ by ! (exits r u (keeps d r e)))))))))))
 
-module _ (a l : Number) {M : Type 1} (𝓤 : URA M) (H : Heap 𝓤) (A : Atoms 𝓤) (W : Given 𝓤 H A) (mem : Memory → SProp 𝓤) (run : Routine → Fun 𝓤) where
-  walks : (C : Calls 𝓤 H) (Λ : Loops 𝓤 H) → FmC 𝓤 H (W .laws) C → Triple 𝓤 (C #part) (PartContract 𝓤 H A mem run) → Walks 𝓤 H A method.ended stayed (WpFn 𝓤 H C Λ (thin (a .place) (l .place))) (partClauses a l 𝓤)
-  walks C Λ fm known = walked 𝓤 H A method.ended stayed (partClauses a l 𝓤) (WpFn 𝓤 H C Λ (thin (a .place) (l .place))) (λ κs. ((λ d. T′.lowered d ∷ []), tt)) (λ κs. (T′.lowers (namedLft 1 0 tt κs) .val-is, tt))
-      (λ κs qs bounds x g are. via 𝓤 _ (fst∗ 𝓤 _ (emp 𝓤)) (walk a l 𝓤 H A W mem run (κs .0) (qs .0) (x .0) C Λ fm known (are .0)))
+module _ (P : MethodPromise) (a l : Number) {M : Type 1} (𝓤 : URA M) (H : Heap 𝓤) (A : Atoms 𝓤) (W : Given 𝓤 H A) (mem : Memory → SProp 𝓤) (run : Routine → Fun 𝓤) where
+  walks : (C : Calls 𝓤 H) (Λ : Loops 𝓤 H) → FmC 𝓤 H (W .laws) C → Triple 𝓤 (C #part) (PartContract 𝓤 H A mem run) → PartKeeps P a l → Walks 𝓤 H A method.ended stayed (WpFn 𝓤 H C Λ (thin (a .place) (l .place))) (partClauses P 𝓤)
+  walks C Λ fm known keeps = walked 𝓤 H A method.ended stayed (partClauses P 𝓤) (WpFn 𝓤 H C Λ (thin (a .place) (l .place))) (λ κs. ((λ d. T′.lowered d ∷ []), tt)) (λ κs. (T′.lowers (namedLft 1 0 tt κs) .val-is, tt))
+      (λ κs qs bounds x g are. via 𝓤 _ (fst∗ 𝓤 _ (emp 𝓤)) (walk P a l 𝓤 H A W mem run (κs .0) (qs .0) (x .0) C Λ fm known keeps (are .0)))
 
-  pub thin-meets : (𝓣 : Tables 𝓤 H) → Triple 𝓤 (𝓣 .C #part) (PartContract 𝓤 H A mem run) → Meets 𝓤 H A method.signature (WpFn 𝓤 H (𝓣 .C) (𝓣 .Λ) (thin (a .place) (l .place))) (closing 𝓤 H A method.ended (partClauses a l 𝓤))
-  thin-meets 𝓣 known = walk-meets 𝓤 H A method.ended stayed W (goes-none 𝓤 H A W 1 B yes (λ κs x f. refl), tt) (partClauses a l 𝓤) (WpFn 𝓤 H (𝓣 .C) (𝓣 .Λ) (thin (a .place) (l .place))) (WpFn-mono 𝓤 H (W .laws) 𝓣 (thin (a .place) (l .place)))
-      (walks (𝓣 .C) (𝓣 .Λ) (fmOf 𝓤 H (W .laws) 𝓣) known)
+  pub thin-meets : (𝓣 : Tables 𝓤 H) → Triple 𝓤 (𝓣 .C #part) (PartContract 𝓤 H A mem run) → PartKeeps P a l → Meets 𝓤 H A method.signature (WpFn 𝓤 H (𝓣 .C) (𝓣 .Λ) (thin (a .place) (l .place))) (closing 𝓤 H A method.ended (partClauses P 𝓤))
+  thin-meets 𝓣 known keeps = walk-meets 𝓤 H A method.ended stayed W (goes-none 𝓤 H A W 1 B yes (λ κs x f. refl), tt) (partClauses P 𝓤) (WpFn 𝓤 H (𝓣 .C) (𝓣 .Λ) (thin (a .place) (l .place))) (WpFn-mono 𝓤 H (W .laws) 𝓣 (thin (a .place) (l .place)))
+      (walks (𝓣 .C) (𝓣 .Λ) (fmOf 𝓤 H (W .laws) 𝓣) known keeps)

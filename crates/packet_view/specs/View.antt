@@ -5,8 +5,9 @@ use mathlib.Core.Bool.{false, cond}
 use mathlib.Core.List.{List, []}
 use lib.Dec.{leb}
 use lib.ListN.{length, take, drop}
-use denote.Ref.{RefT}
+use denote.Ref.{RefT, now}
 use Rattle.laws.specs.Answer.{Answer, Answer.given, Answer.refused}
+use Rattle.packet_view.specs.Stretch.{Stretch, stretchIn}
 use Rattle.refusal.specs.Reading.{outcomeAnswer}
 use Rattle.packet_head.specs.Header.{Control, control}
 use Rattle.packet_head.specs.Block.{typeOf}
@@ -24,6 +25,14 @@ Part = ℕ × ℕ
 -- the bytes of s there, or none where they run past its end
 unfoldable pub partOf : List ℕ → ℕ → ℕ → List ℕ
 partOf s at len = cond (leb (at + len) (length s)) (take len (drop at s)) []
+
+-- and where they begin in s: a part of no bytes that stands for one past the end, at the first byte
+unfoldable pub partStart : List ℕ → ℕ → ℕ → ℕ
+partStart s at len = cond (leb (at + len) (length s)) at 0
+
+-- the part, as a slice: these bytes, at that place of the caller's slice
+abbrev pub partSeen : RefT (List ℕ) → ℕ → ℕ → Stretch
+partSeen s at len = stretchIn s (partStart (now s) at len) (partOf (now s) at len)
 
 -- where an accepted frame has its parts; without a block or a MAC, nowhere
 abbrev pub blockIn : BlockAt → Part
@@ -94,6 +103,21 @@ payloadOf s = bytesAt s dataIn (parseOf s)
 
 unfoldable pub frameMacOf : List ℕ → List ℕ
 frameMacOf s = bytesAt s (λ F. macIn (F .mac)) (parseOf s)
+
+-- where p begins in an accepted frame; after a refusal the part is the frame's empty first one
+abbrev pub startAt : (Fields → Part) → Answer Fields → ℕ
+startAt p (given F) = p F .0
+startAt p (refused n vs) = 0
+
+-- each part as a slice: its bytes, at their place of the caller's slice
+abbrev pub blockDataSeen : RefT (List ℕ) → Stretch
+blockDataSeen s = stretchIn s (startAt (λ F. blockIn (F .block)) (parseOf (now s))) (blockDataOf (now s))
+
+abbrev pub payloadSeen : RefT (List ℕ) → Stretch
+payloadSeen s = stretchIn s (startAt dataIn (parseOf (now s))) (payloadOf (now s))
+
+abbrev pub frameMacSeen : RefT (List ℕ) → Stretch
+frameMacSeen s = stretchIn s (startAt (λ F. macIn (F .mac)) (parseOf (now s))) (frameMacOf (now s))
 
 -- ---- the code's kinds, as the paper has them
 

@@ -3,7 +3,8 @@ ghost use mathlib.Core.Path.{_≡_};
 ghost use Rattle.refusal.specs.Paper.{refusalOf};
 ghost use Rattle.packet_parse.specs.Frame.{typeIn, parseOf, fields, blockPlace, macPlace};
 ghost use Rattle.laws.specs.Answer.{Answer.given};
-ghost use Rattle.packet_view.specs.View.{placesTold, placesOf, kindOf, blockIn, macIn, partOf};
+ghost use Rattle.packet_view.specs.Stretch.{stretchOf};
+ghost use Rattle.packet_view.specs.View.{placesTold, placesOf, kindOf, blockIn, macIn, partSeen};
 use packet_head::Address;
 use packet_head::ControlByte;
 use packet_head::ScsType;
@@ -135,7 +136,7 @@ pub fn places_in(buf: &[u8]) -> Places
 
 // The len bytes of s from start on, or its empty first part where they run past its end.
 pub fn part(s: &[u8], start: usize, len: usize) -> &[u8]
-    ensures { λ r. ⌜ now r ≡ partOf (now (s .entry)) start len ⌝ }
+    ensures { λ r. ⌜ stretchOf r ≡ partSeen (s .entry) start len ⌝ }
 {
     if s.len() < start {
         return &s[..0];

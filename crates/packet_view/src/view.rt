@@ -1,7 +1,8 @@
 // The view. Its functions take it apart and call those on the slice and the numbers.
 ghost use mathlib.Core.Path.{_≡_};
+ghost use Rattle.packet_view.specs.Stretch.{stretchOf};
 ghost use Rattle.packet_parse.specs.Frame.{parseOf};
-ghost use Rattle.packet_view.specs.View.{placesOf, viewed, partOf, blockDataOf, payloadOf, frameMacOf};
+ghost use Rattle.packet_view.specs.View.{placesOf, viewed, partSeen, blockDataSeen, payloadSeen, frameMacSeen};
 use super::parts::BlockKind;
 use super::parts::part;
 use super::parts::places_in;
@@ -52,19 +53,19 @@ impl<'a> PacketView<'a> {
     }
 
     pub fn block_data(self) -> &'a [u8]
-        ensures { λ r. ⌜ now r ≡ partOf (now (self .entry .frame)) (self .entry .«block_at») (self .entry .«block_len») ⌝ }
+        ensures { λ r. ⌜ stretchOf r ≡ partSeen (self .entry .frame) (self .entry .«block_at») (self .entry .«block_len») ⌝ }
     {
         part(self.frame, self.block_at, self.block_len)
     }
 
     pub fn payload(self) -> &'a [u8]
-        ensures { λ r. ⌜ now r ≡ partOf (now (self .entry .frame)) (self .entry .«data_at») (self .entry .«data_len») ⌝ }
+        ensures { λ r. ⌜ stretchOf r ≡ partSeen (self .entry .frame) (self .entry .«data_at») (self .entry .«data_len») ⌝ }
     {
         part(self.frame, self.data_at, self.data_len)
     }
 
     pub fn mac(self) -> &'a [u8]
-        ensures { λ r. ⌜ now r ≡ partOf (now (self .entry .frame)) (self .entry .«mac_at») (self .entry .«mac_len») ⌝ }
+        ensures { λ r. ⌜ stretchOf r ≡ partSeen (self .entry .frame) (self .entry .«mac_at») (self .entry .«mac_len») ⌝ }
     {
         part(self.frame, self.mac_at, self.mac_len)
     }
@@ -72,19 +73,19 @@ impl<'a> PacketView<'a> {
 
 // With plain parameters, for callers that keep no view.
 pub fn block_data_in(frame: &[u8]) -> &[u8]
-    ensures { λ r. ⌜ now r ≡ blockDataOf (now (frame .entry)) ⌝ }
+    ensures { λ r. ⌜ stretchOf r ≡ blockDataSeen (frame .entry) ⌝ }
 {
     PacketView::parse(frame).block_data()
 }
 
 pub fn payload_in(frame: &[u8]) -> &[u8]
-    ensures { λ r. ⌜ now r ≡ payloadOf (now (frame .entry)) ⌝ }
+    ensures { λ r. ⌜ stretchOf r ≡ payloadSeen (frame .entry) ⌝ }
 {
     PacketView::parse(frame).payload()
 }
 
 pub fn mac_in(frame: &[u8]) -> &[u8]
-    ensures { λ r. ⌜ now r ≡ frameMacOf (now (frame .entry)) ⌝ }
+    ensures { λ r. ⌜ stretchOf r ≡ frameMacSeen (frame .entry) ⌝ }
 {
     PacketView::parse(frame).mac()
 }

@@ -1,9 +1,8 @@
 -- `packet_view::payload_in` meets its contract, by `Door.antt`'s one walk. Assumes nothing.
+use mathlib.Core.Path.{_∙_}
 use contract.Running.{givenOf, tables, tablesOf}
 use denote.Triple.Spec.{tripleOf}
 use denote.Triple.Table.{entered, cited}
-use Rattle.packet_view.specs.View.{payloadOf}
-use Rattle.packet_view.proofs.Thin.{data-at, data-len}
 use Rattle.packet_view.proofs.Door.{New, Next, door-meets}
 use Rattle.packet_view.proofs.ShownLaws.{payload-shown}
 use Rattle.packet_view.proofs.view.PacketView.parse.Symbol as parse-def
@@ -22,6 +21,6 @@ unfolding code.routine tablesOf
 payload-in-spec 𝓤 H 𝓜 𝓖 𝓡 =
     entered 𝓤 H (tripleOf 𝓤 H (𝓖 .A) self.signature (self.spec 𝓤 H (𝓖 .A) (𝓜 .mem) (𝓡 .run)))
     (tables 𝓤 H 𝓜 𝓡 code.env .C) (tables 𝓤 H 𝓜 𝓡 code.env .Λ) #self code.function (code.unfolded 𝓤 H 𝓜 𝓡)
-    (door-meets payloadOf data-at data-len #method payload-shown 𝓤 H (𝓖 .A) (givenOf 𝓤 H 𝓜 𝓖) (𝓜 .mem) (𝓡 .run) (tablesOf 𝓤 H 𝓜 (tables 𝓤 H 𝓜 𝓡 code.env))
+    (door-meets _ _ #method 𝓤 H (𝓖 .A) (givenOf 𝓤 H 𝓜 𝓖) (𝓜 .mem) (𝓡 .run) (tablesOf 𝓤 H 𝓜 (tables 𝓤 H 𝓜 𝓡 code.env))
     (cited 𝓤 H (New 𝓤 H (𝓖 .A) (𝓜 .mem) (𝓡 .run)) 𝓜 𝓡 code.env #parse parse-def.routine code.calls-packet-view·view·PacketView·parse (parse-thm.met 𝓤 H 𝓜 𝓖 𝓡))
-    (cited 𝓤 H (Next data-at data-len 𝓤 H (𝓖 .A)) 𝓜 𝓡 code.env #method method-def.routine code.calls-packet-view·view·PacketView·payload (method-thm.met 𝓤 H 𝓜 𝓖 𝓡)))
+    (cited 𝓤 H (Next _ 𝓤 H (𝓖 .A)) 𝓜 𝓡 code.env #method method-def.routine code.calls-packet-view·view·PacketView·payload (method-thm.met 𝓤 H 𝓜 𝓖 𝓡)) (λ s w r e f. f ∙ payload-shown s w e))
