@@ -1,4 +1,6 @@
--- `packet_view::block_data_in` meets its contract, by `Door.antt`'s one walk. Assumes nothing.
+-- `packet_view::block_data_in` meets its contract, by `Door.antt`'s one walk. The walk takes the promise as the contract has it; that what `parse` and the
+-- method answered keep it is the last argument.
+-- Assumes nothing.
 use mathlib.Core.Path.{_∙_}
 use contract.Running.{givenOf, tables, tablesOf}
 use denote.Triple.Spec.{tripleOf}
@@ -23,4 +25,4 @@ block-data-in-spec 𝓤 H 𝓜 𝓖 𝓡 =
     (tables 𝓤 H 𝓜 𝓡 code.env .C) (tables 𝓤 H 𝓜 𝓡 code.env .Λ) #self code.function (code.unfolded 𝓤 H 𝓜 𝓡)
     (door-meets _ _ #method 𝓤 H (𝓖 .A) (givenOf 𝓤 H 𝓜 𝓖) (𝓜 .mem) (𝓡 .run) (tablesOf 𝓤 H 𝓜 (tables 𝓤 H 𝓜 𝓡 code.env))
     (cited 𝓤 H (New 𝓤 H (𝓖 .A) (𝓜 .mem) (𝓡 .run)) 𝓜 𝓡 code.env #parse parse-def.routine code.calls-packet-view·view·PacketView·parse (parse-thm.met 𝓤 H 𝓜 𝓖 𝓡))
-    (cited 𝓤 H (Next _ 𝓤 H (𝓖 .A)) 𝓜 𝓡 code.env #method method-def.routine code.calls-packet-view·view·PacketView·block-data (method-thm.met 𝓤 H 𝓜 𝓖 𝓡)) (λ s w r e f. f ∙ block-data-shown s w e))
+    (cited 𝓤 H (Next _ 𝓤 H (𝓖 .A)) 𝓜 𝓡 code.env #method method-def.routine code.calls-packet-view·view·PacketView·block-data (method-thm.met 𝓤 H 𝓜 𝓖 𝓡)) (λ s w r e f. let h = f ∙ block-data-shown s w e in cc))

@@ -1,4 +1,5 @@
--- `packet_view::PacketView::block_data` meets its contract: a thin method, by `Thin.antt`'s one walk.
+-- `packet_view::PacketView::block_data` meets its contract: a thin method, by `Thin.antt`'s one walk. The walk takes the promise as the contract has it;
+-- that what `part` answered keeps it is the last argument.
 -- Assumes nothing.
 use contract.Running.{givenOf, tables, tablesOf}
 use denote.Triple.Spec.{tripleOf}
@@ -18,4 +19,4 @@ block-data-spec 𝓤 H 𝓜 𝓖 𝓡 =
     entered 𝓤 H (tripleOf 𝓤 H (𝓖 .A) method.signature (method.spec 𝓤 H (𝓖 .A) (𝓜 .mem) (𝓡 .run)))
     (tables 𝓤 H 𝓜 𝓡 code.env .C) (tables 𝓤 H 𝓜 𝓡 code.env .Λ) #block-data code.function (code.unfolded 𝓤 H 𝓜 𝓡)
     (thin-meets _ block-at block-len 𝓤 H (𝓖 .A) (givenOf 𝓤 H 𝓜 𝓖) (𝓜 .mem) (𝓡 .run) (tablesOf 𝓤 H 𝓜 (tables 𝓤 H 𝓜 𝓡 code.env))
-    (cited 𝓤 H (PartContract 𝓤 H (𝓖 .A) (𝓜 .mem) (𝓡 .run)) 𝓜 𝓡 code.env #part part-def.routine code.calls-packet-view·parts·part (part-thm.met 𝓤 H 𝓜 𝓖 𝓡)) (λ d r e. e))
+    (cited 𝓤 H (PartContract 𝓤 H (𝓖 .A) (𝓜 .mem) (𝓡 .run)) 𝓜 𝓡 code.env #part part-def.routine code.calls-packet-view·parts·part (part-thm.met 𝓤 H 𝓜 𝓖 𝓡)) (λ d r e. cc))
