@@ -18,7 +18,7 @@ use Rattle.packet_build.proofs.Frames.{build-given}
 use Rattle.packet_view.specs.View.{payloadOf}
 use Rattle.packet.proofs.Built.{builtFields}
 use Rattle.packet.proofs.ReadBack.{built-reads-back}
-use Rattle.channel.specs.Carried.{Wire, wireParts, onLine, carried, WireFits}
+use Rattle.channel.specs.Carried.{Wire, wireParts, onLine, carriage, carried, WireFits}
 
 tail-most : (t : Bool) → trailerLen t ≤ 2
 tail-most true = omega arith
@@ -53,7 +53,7 @@ module _ (ty : ℕ) (w : Wire) (x : List ℕ) (known : scsOf ty ≡ given ty) (b
   reads = ap parseOf (sym (append-nil (frameBytes parts total))) ∙ built-reads-back parts (length (w .out)) (frameBytes parts total) [] known built .0
 
   pub carried-eq : carried ty w x ≡ x
-  unfolding carried onLine payloadOf
+  unfolding carried carriage onLine payloadOf
   carried-eq =
       rw (built, sent, reads)
       (ap (λ (p : Parts). p .«data») (built-reads-back parts (length (w .out)) (frameBytes parts total) [] known built .1))

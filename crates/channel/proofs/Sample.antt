@@ -1,12 +1,13 @@
 -- The premises of demand 3 can be met: two conversations that differ in keys, random numbers and encrypted contents. Two frames from
--- each end, one of them encrypted, and twice the same end twice in a row. The second pair of ends is not fresh.
+-- each end, one of them encrypted, and twice the same end twice in a row; the reader's have the reply flag. The second pair of ends is
+-- not fresh.
 -- Assumes nothing.
 use mathlib.Core.Bool.{true, false, false≢true}
-use mathlib.Core.List.{List, [], _∷_}
+use mathlib.Core.List.{List, [], _∷_, map}
 use mathlib.Core.Path.{_≡_, refl, sym, ap, _∙_}
-use Prim.Native.Nat.{ℕ, _≤_, _<_}
+use Prim.Native.Nat.{ℕ, _+_, _*_, _/_, _≤_, _<_}
 use native.Mathlib.Omega.{arith}
-use lib.ListN.{replicate, getD, length-replicate}
+use lib.ListN.{length, replicate, getD, length-replicate}
 use Rattle.laws.specs.Bytes.{Exactly, zeros}
 use Rattle.laws.proofs.ByteLists.{bytes-replicate}
 use Rattle.secure_cipher.proofs.PadLaws.{length-padData}
@@ -16,46 +17,57 @@ use Rattle.secure_session.specs.declared.session.End.{End}
 use Rattle.secure_session.specs.declared.session.End.the-variants.{Controller, Reader}
 use Rattle.secure_session.specs.declared.session.Session.{Session}
 use Rattle.secure_session.specs.declared.session.State.the-variants.{Disconnected}
-use Rattle.secure_seal.specs.Seal.{dataLenFor}
+use Rattle.secure_seal.specs.Seal.{dataLenFor, totalOf}
+use Rattle.secure_seal.proofs.SealLaws.{plain-len, hidden-len}
 use Rattle.channel.specs.Carried.{Wire, WireFits}
 use Rattle.channel.specs.Handshake.{Wires, WiresFit}
-use Rattle.channel.specs.Talk.{Send}
-use Rattle.channel.specs.Demand.{Conversation, SendFits, AllFit, Proper, Agree, Each, Demand3}
-use Rattle.channel.proofs.Demand3.{demand3}
+use Rattle.channel.specs.Talk.{Send, askedIn, Event}
+use Rattle.channel.specs.Demand.{Conversation, eventsOf, SendFits, AllFit, Proper, Agree, Each, Demand3}
+use Rattle.channel.proofs.Demand3.{each-sized, callsTold, calls-counted, demand3}
+
+-- the reader's address, with the reply flag on what it sends itself
+addrFrom : End → ℕ
+addrFrom Controller = 5
+addrFrom Reader = 0x85
+
+addr-byte : (e : End) → addrFrom e < 256
+unfolding addrFrom
+addr-byte Controller = omega arith
+addr-byte Reader = omega arith
 
 -- ---- the handshake's frames
-wire : ℕ → Wire
-wire code = record { addr = 5; sqn = 0; useCrc = true; block = 1 ∷ []; code = code; out = zeros 64 }
+wire : End → ℕ → Wire
+wire e code = record { addr = addrFrom e; sqn = 0; useCrc = true; block = 1 ∷ []; code = code; out = zeros 64 }
 
-wire-fits : (code n : ℕ) → n ≤ 32 → WireFits (wire code) n
+wire-fits : (e : End) (code n : ℕ) → n ≤ 32 → WireFits (wire e code) n
 unfolding wire
-wire-fits code n h = record { sqn = omega arith; block = omega arith; room = omega arith }
+wire-fits e code n h = record { sqn = omega arith; block = omega arith; room = omega arith }
 
 wires : Wires
-wires = record { chlng = wire 0x76; ccrypt = wire 0x76; scrypt = wire 0x77; rmac = wire 0x78 }
+wires = record { chlng = wire Controller 0x76; ccrypt = wire Reader 0x76; scrypt = wire Controller 0x77; rmac = wire Reader 0x78 }
 
 wires-fit : WiresFit wires
 unfolding wires
 wires-fit = record {
-  chlng = wire-fits 0x76 8 (omega arith);
-  ccrypt = wire-fits 0x76 32 (omega arith);
-  scrypt = wire-fits 0x77 16 (omega arith);
-  rmac = wire-fits 0x78 16 (omega arith);
+  chlng = wire-fits Controller 0x76 8 (omega arith);
+  ccrypt = wire-fits Reader 0x76 32 (omega arith);
+  scrypt = wire-fits Controller 0x77 16 (omega arith);
+  rmac = wire-fits Reader 0x78 16 (omega arith);
 }
 
 -- ---- the sealed frames: n bytes x
 plainSend : End → ℕ → ℕ → Send
-plainSend e n x = record { who = e; addr = 5; sqn = 1; code = 0x60; encrypt = false; payload = replicate n x; out = zeros 64; work = [] }
+plainSend e n x = record { who = e; addr = addrFrom e; sqn = 1; code = 0x60; encrypt = false; payload = replicate n x; out = zeros 64; work = [] }
 
 hidden : End → ℕ → ℕ → Send
-hidden e n x = record { who = e; addr = 0x85; sqn = 2; code = 0x53; encrypt = true; payload = replicate n x; out = zeros 64; work = zeros 32 }
+hidden e n x = record { who = e; addr = addrFrom e; sqn = 2; code = 0x53; encrypt = true; payload = replicate n x; out = zeros 64; work = zeros 32 }
 
 plain-send-fits : (e : End) (n x : ℕ) → n ≤ 16 → x < 256 → SendFits (plainSend e n x)
 unfolding plainSend dataLenFor
 plain-send-fits e n x h hx =
     let l = length-replicate {A = ℕ} n x in
     record {
-      limits = record { addr = omega arith; sqn = omega arith; code = omega arith; payload = bytes-replicate n x hx; total = omega arith };
+      limits = record { addr = addr-byte e; sqn = omega arith; code = omega arith; payload = bytes-replicate n x hx; total = omega arith };
       room = omega arith;
       work = λ p. absurd (false≢true p);
     }
@@ -66,7 +78,7 @@ hidden-fits e n x h hx =
     let l = length-replicate {A = ℕ} n x in
     let m = length-padData (replicate n x) in
     record {
-      limits = record { addr = omega arith; sqn = omega arith; code = omega arith; payload = bytes-replicate n x hx; total = omega arith };
+      limits = record { addr = addr-byte e; sqn = omega arith; code = omega arith; payload = bytes-replicate n x hx; total = omega arith };
       room = omega arith;
       work = λ p. omega arith;
     }
@@ -175,3 +187,26 @@ samples-differ = record {
 
 pub met : Demand3 one other
 met = demand3 one other one-proper other-proper samples-agree
+
+-- ---- what it comes to here: 46 and 30 bytes encrypted, 14 and 22 plain, in both
+abbrev pub lengthsIn : Conversation → List ℕ
+lengthsIn t = map (λ (e : Event). length (e .frame)) (eventsOf t)
+
+sent-sized : (x : ℕ) → map (λ (s : Send). totalOf (askedIn s)) (sends x) ≡ 46 ∷ 14 ∷ 22 ∷ 30 ∷ []
+unfolding sends hidden plainSend
+sent-sized x =
+    let n : (k : ℕ) → dataLenFor true (replicate k x) ≡ (k / 16 + 1) * 16 = λ k. hidden-len (replicate k x) ∙ ap (λ (m : ℕ). (m / 16 + 1) * 16) (length-replicate {A = ℕ} k x) in
+    let p : (k : ℕ) → dataLenFor false (replicate k 9) ≡ k = λ k. plain-len (replicate k 9) ∙ length-replicate {A = ℕ} k 9 in
+    rw (n 16, p 0, p 8, n 3)
+
+pub met-lengths : (lengthsIn one ≡ 46 ∷ 14 ∷ 22 ∷ 30 ∷ []) × (lengthsIn other ≡ 46 ∷ 14 ∷ 22 ∷ 30 ∷ [])
+unfolding one other between
+met-lengths = (each-sized (one .sends) (eventsOf one) (met .arrived₁) ∙ sent-sized 7, each-sized (other .sends) (eventsOf other) (met .arrived₂) ∙ sent-sized 8)
+
+-- 5 and 3 calls encrypted, 1 and 1 plain, sealing and unsealing; in the other conversation they are the same
+abbrev callsSent : List (ℕ × ℕ)
+callsSent = (5, 5) ∷ (1, 1) ∷ (1, 1) ∷ (3, 3) ∷ []
+
+pub met-calls : (map callsTold (eventsOf one) ≡ callsSent) × (map callsTold (eventsOf other) ≡ callsSent)
+unfolding one other between sends hidden plainSend
+met-calls = (calls-counted one one-proper, calls-counted other other-proper)

@@ -2,14 +2,17 @@
 -- Assumes nothing.
 use mathlib.Core.Bool.{Bool, true, false}
 use mathlib.Core.List.{List, [], _∷_, _++_}
-use mathlib.Core.Path.{_≡_, refl, sym, ap, ap₂}
+use mathlib.Core.Path.{_≡_, refl, sym, ap, ap₂, _∙_}
 use Prim.Native.Nat.{ℕ, _+_, _-_}
 use native.Mathlib.Omega.{arith}
 use lib.ListN.{length, take}
+use lib.Seq.{length-take-le}
 use Rattle.laws.specs.Answer.{Answer.given}
 use Rattle.laws.specs.Blocks.{Block}
 use Rattle.laws.specs.Over.{write}
 use Rattle.laws.proofs.Overwrite.{take-write}
+use Rattle.packet_head.specs.Trailer.{Tail}
+use Rattle.packet.proofs.Built.{tailOf}
 use Rattle.secure_keys.specs.declared.crypto.SessionKeys.{SessionKeys}
 use Rattle.secure_keys.proofs.KeysLaws.{GoodKeys}
 use Rattle.secure_session.specs.Session.{isSecure, sendFrom, recvFrom, sent, received}
@@ -17,12 +20,12 @@ use Rattle.secure_session.specs.declared.session.End.{End}
 use Rattle.secure_session.specs.declared.session.End.the-variants.{Controller, Reader}
 use Rattle.secure_session.specs.declared.session.Session.{Session}
 use Rattle.secure_session.proofs.Shaken.{Ready}
-use Rattle.secure_seal.specs.Seal.{Asked, dataLenFor, totalOf, Sealable, SealedFrame, sealedFrame, afterSeal, sealOf}
-use Rattle.secure_seal.proofs.SealLaws.{seals, stepsFor, headWith, full-block, frame-length, frame-steps, head-alone, plain-alone}
+use Rattle.secure_seal.specs.Seal.{Asked, dataLenFor, totalOf, Sealable, SealedFrame, bodyWith, sealedFrame, afterSeal, sealOf}
+use Rattle.secure_seal.proofs.SealLaws.{seals, stepsFor, headWith, fieldsWith, sealedData, sealedMac, full-block, frame-length, frame-steps, head-alone, plain-alone, reads-alone}
 use Rattle.secure_unseal.specs.Unseal.{unsealRun, afterUnseal, unsealOf}
 use Rattle.channel.specs.Carried.{onLine}
 use Rattle.channel.specs.Talk.{Send, directionOf, askedIn, Event, showing, transfer, turn, talk}
-use Rattle.channel.specs.Demand.{SendFits, AllFit, encryptedLen, openBytes, Each, Arrived}
+use Rattle.channel.specs.Demand.{SendFits, AllFit, encryptedLen, secretLen, openBytes, Each, Arrived, secretFrom, Measured}
 use Rattle.channel.proofs.Delivered.{placeFor, workFor, unseal-run-eq, shown-eq}
 use Rattle.channel.proofs.Ends.{ready-same, ready-other}
 
@@ -42,15 +45,21 @@ module _ (k : SessionKeys) (v : List ℕ) (q : Asked) (hk : GoodKeys k) (hv : Bl
       let n : totalOf q - (0 + 4 + 2) ≡ 8 + length (q .payload) = rw p (unfold dataLenFor in (omega arith)) in
       rw n (plain-alone k v q hk hv h p)
 
+-- how many bytes that is: up to where reading finds the encrypted data or the MAC
+open-end : (q : Asked) (t : Tail) (e : Bool) → q .encrypt ≡ e → totalOf q - (encryptedLen e (q .payload) + 4 + 2) ≡ secretFrom e (fieldsWith q t)
+open-end q t true p = rw p (omega arith)
+open-end q t false p = omega arith
+
 -- ---- what an event is, said without keys, random numbers and encrypted contents
 pub record Heard (s : Send) (e : Event) : Type 0 where
   pub arrived : Arrived s e
+  pub measured : Measured s e
   pub bytes : openBytes s (e .frame) ≡ openFor (s .encrypt) (askedIn s)
   pub sealCalls : e .sealCalls ≡ stepsFor (s .encrypt) (length (s .payload))
   pub openCalls : e .openCalls ≡ stepsFor (s .encrypt) (length (s .payload))
 
 module _ (a b : Session) (s : Send) (r : Ready a b) (g : SendFits s) where
-  abbrev made : SealedFrame
+  abbrev pub made : SealedFrame
   made = sealedFrame (a .keys) (sendFrom a) (askedIn s)
 
   made-length : length (made .bytes) ≡ totalOf (askedIn s)
@@ -83,10 +92,13 @@ module _ (a b : Session) (s : Send) (r : Ready a b) (g : SendFits s) where
             (r .good) (r .block) (s .encrypt) (b .state) (r .taker) (g .limits) (g .work),
       )
 
-  transfer-eq : transfer a b s
+  pub transfer-eq : transfer a b s
       ≡ record {
         from = sent a (made .full);
         to = received b (made .full);
+        out = write (s .out) 0 (made .bytes);
+        work = workFor (s .encrypt) (s .payload) (s .work);
+        place = given (placeFor (s .encrypt) (length (s .payload)));
         event = record {
           sealed = given (totalOf (askedIn s));
           frame = made .bytes;
@@ -105,9 +117,24 @@ module _ (a b : Session) (s : Send) (r : Ready a b) (g : SendFits s) where
             (r .good) (r .block) (s .encrypt) (g .limits) (g .work),
       )
 
+  -- what is compared ends where reading says
+  abbrev tailMade : Tail
+  tailMade = tailOf true (bodyWith (askedIn s) (sealedData (a .keys) (sendFrom a) (askedIn s)) ++ sealedMac (a .keys) (sendFrom a) (askedIn s))
+
+  made-ends : length (openBytes s (made .bytes)) ≡ secretFrom (s .encrypt) (fieldsWith (askedIn s) tailMade)
+  made-ends =
+      length-take-le (length (made .bytes) - secretLen s) (made .bytes) (omega arith)
+      ∙ ap (λ (n : ℕ). n - secretLen s) made-length
+      ∙ open-end (askedIn s) tailMade (s .encrypt) refl
+
   pub transfer-heard : Heard s (transfer a b s .event)
   transfer-heard = rw transfer-eq (record {
     arrived = record { sealed = refl; size = made-length; opened = refl };
+    measured = record {
+      fields = fieldsWith (askedIn s) tailMade;
+      reads = reads-alone (a .keys) (sendFrom a) (askedIn s) (r .good) (r .block) (g .limits);
+      ends = made-ends;
+    };
     bytes = rw made-length (open-part (a .keys) (sendFrom a) (askedIn s) (r .good) (r .block) (g .limits) (s .encrypt) refl);
     sealCalls = frame-steps (a .keys) (sendFrom a) (askedIn s) (r .good) (r .block) (g .limits);
     openCalls = refl;

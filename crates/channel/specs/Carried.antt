@@ -3,11 +3,16 @@
 use Prim.Native.Nat.{ℕ, _≤_}
 use mathlib.Core.Bool.{Bool, true}
 use mathlib.Core.List.{List, []}
-use lib.ListN.{length, take}
+use lib.ListN.{length, take, drop}
 use Rattle.laws.specs.Answer.{Answer, Answer.given, Answer.refused}
 use Rattle.laws.specs.Buffer.{sized, written}
+use Rattle.packet_head.specs.declared.header.Address.{Address}
+use Rattle.packet_head.specs.declared.header.Sqn.{Sqn}
+use Rattle.packet_parse.specs.Frame.{parseOf}
 use Rattle.packet_build.specs.Build.{FrameBlock.scb, Parts, totalN, buildOf}
-use Rattle.packet_view.specs.View.{payloadOf}
+use Rattle.packet_view.specs.View.{Part, placesOf, payloadOf}
+use Rattle.refusal.specs.Reading.{lengthAnswer}
+use Rattle.channel.specs.declared.messages.CarriedMessage.{CarriedMessage}
 
 -- how its sender frames it: any address, sequence number, trailer, block data and code, and the buffer that it is built into
 pub record Wire : Type 0 where
@@ -27,14 +32,40 @@ unfoldable pub onLine : Answer ℕ → List ℕ → List ℕ
 onLine (given n) o = take n o
 onLine (refused n vs) o = []
 
+-- what the building answers, the buffer after it, and of what is then on the line: where the peer finds the message, and what it reads
+pub record Carriage : Type 0 where
+  pub sent : Answer ℕ
+  pub out : List ℕ
+  pub place : Part
+  pub read : List ℕ
+
+unfoldable pub carriage : ℕ → Wire → List ℕ → Carriage
+carriage ty w x =
+    let b = buildOf (wireParts ty w x) (length (w .out)) in
+    let f = onLine (sized b) (written (w .out) b) in
+    record { sent = sized b; out = written (w .out) b; place = placesOf (parseOf f) .payload; read = payloadOf f }
+
 -- what the peer reads
 unfoldable pub carried : ℕ → Wire → List ℕ → List ℕ
-carried ty w x =
-    let b = buildOf (wireParts ty w x) (length (w .out)) in
-    payloadOf (onLine (sized b) (written (w .out) b))
+carried ty w x = carriage ty w x .read
 
 -- within limits and buffers, for a message of n bytes
 pub record WireFits (w : Wire) (n : ℕ) : Type 0 where
   pub sqn : w .sqn ≤ 3
   pub block : length (w .block) ≤ 253
   pub room : totalN (w .useCrc) true 0 (length (w .block)) n ≤ length (w .out)
+
+-- ---- the code's kinds, as the paper has them; `o` is the buffer in the end
+
+abbrev pub wireOf : Address → Sqn → Bool → List ℕ → ℕ → List ℕ → Wire
+wireOf a n c b k o = record { addr = a .0; sqn = n .0; useCrc = c; block = b; code = k; out = o }
+
+-- the message is read at its place in what is on the line
+abbrev pub carriageTold : CarriedMessage → List ℕ → Carriage
+carriageTold r o =
+    record {
+      sent = lengthAnswer (r .sent);
+      out = o;
+      place = (r .start, r .len);
+      read = take (r .len) (drop (r .start) (onLine (lengthAnswer (r .sent)) o));
+    }

@@ -6,12 +6,14 @@ use mathlib.Core.List.{List, [], _∷_}
 use mathlib.Core.Path.{_≡_}
 use lib.ListN.{length, take}
 use Rattle.laws.specs.Answer.{Answer.given}
+use Rattle.packet_parse.specs.Frame.{Fields, macStart, parseOf}
 use Rattle.secure_keys.specs.Keys.{Random}
 use Rattle.secure_session.specs.Apart.{Apart}
+use Rattle.secure_session.specs.Session.{sendFrom, recvFrom, sent, received}
 use Rattle.secure_session.specs.declared.session.Session.{Session}
 use Rattle.secure_seal.specs.Seal.{Sealable, dataLenFor, totalOf}
 use Rattle.channel.specs.Handshake.{Hand, Wires, WiresFit, shakeIn, Succeeded}
-use Rattle.channel.specs.Talk.{Send, askedIn, Event, talk}
+use Rattle.channel.specs.Talk.{Send, askedIn, Event, transfer, talk}
 
 -- ---- a conversation: the handshake, then any list of sealed frames
 pub record Conversation : Type 0 where
@@ -84,26 +86,48 @@ secretLen s = encryptedLen (s .encrypt) (s .payload) + 4 + 2
 abbrev pub openBytes : Send → List ℕ → List ℕ
 openBytes s f = take (length f - secretLen s) f
 
--- s was sent in the one conversation and t in the other
-pub record Alike (s t : Send) (d e : Event) : Type 0 where
-  pub size : length (d .frame) ≡ length (e .frame)
-  pub bytes : openBytes s (d .frame) ≡ openBytes t (e .frame)
-  pub sealCalls : d .sealCalls ≡ e .sealCalls
-  pub openCalls : d .openCalls ≡ e .openCalls
+-- what was sent, and what came of it; where each frame arrived there are equally many
+abbrev pub besides : List Send → List Event → List (Send × Event)
+besides [] es = []
+besides (s ∷ ss) [] = []
+besides (s ∷ ss) (e ∷ es) = (s, e) ∷ besides ss es
 
-abbrev pub AllAlike : List Send → List Send → List Event → List Event → Type 0
-AllAlike [] [] [] [] = Unit {0}
-AllAlike [] [] [] (e ∷ es) = ⊥
-AllAlike [] [] (d ∷ ds) es = ⊥
-AllAlike [] (t ∷ ts) ds es = ⊥
-AllAlike (s ∷ ss) [] ds es = ⊥
-AllAlike (s ∷ ss) (t ∷ ts) [] es = ⊥
-AllAlike (s ∷ ss) (t ∷ ts) (d ∷ ds) [] = ⊥
-AllAlike (s ∷ ss) (t ∷ ts) (d ∷ ds) (e ∷ es) = Alike s t d e × AllAlike ss ts ds es
+abbrev pub passedIn : Conversation → List (Send × Event)
+passedIn t = besides (t .sends) (eventsOf t)
+
+-- a frame of the one conversation and its like in the other
+pub record Alike (x y : Send × Event) : Type 0 where
+  pub size : length (x .1 .frame) ≡ length (y .1 .frame)
+  pub bytes : openBytes (x .0) (x .1 .frame) ≡ openBytes (y .0) (y .1 .frame)
+  pub sealCalls : x .1 .sealCalls ≡ y .1 .sealCalls
+  pub openCalls : x .1 .openCalls ≡ y .1 .openCalls
 
 pub record Demand3 (t u : Conversation) : Type 0 where
   pub shook₁ : Succeeded (handOf t)
   pub shook₂ : Succeeded (handOf u)
   pub arrived₁ : Each Arrived (t .sends) (eventsOf t)
   pub arrived₂ : Each Arrived (u .sends) (eventsOf u)
-  pub alike : AllAlike (t .sends) (u .sends) (eventsOf t) (eventsOf u)
+  pub alike : Each Alike (passedIn t) (passedIn u)
+
+-- ---- beside it: the compared bytes are all that stand before the encrypted data, or before the MAC, and not one fewer
+
+-- where those start, as reading the frame tells it
+abbrev pub secretFrom : Bool → Fields → ℕ
+secretFrom true F = F .dataStart
+secretFrom false F = macStart (F .mac)
+
+pub record Measured (s : Send) (e : Event) : Type 0 where
+  pub fields : Fields
+  pub reads : parseOf (e .frame) ≡ given fields
+  pub ends : length (openBytes s (e .frame)) ≡ secretFrom (s .encrypt) fields
+
+-- ---- and of one frame: sealed by one end, then unsealed by the other
+
+-- the payload opens as it was sent, both ends moved by one full MAC, and whichever sends next starts where the other's check does
+pub record RoundTrip (from to : Session) (s : Send) : Type 0 where
+  pub opened : transfer from to s .event .opened ≡ given (s .payload)
+  pub full : List ℕ
+  pub sender : transfer from to s .from ≡ sent from full
+  pub peer : transfer from to s .to ≡ received to full
+  pub again : sendFrom (transfer from to s .from) ≡ recvFrom (transfer from to s .to)
+  pub reply : sendFrom (transfer from to s .to) ≡ recvFrom (transfer from to s .from)

@@ -10,9 +10,13 @@ use Rattle.secure_session.specs.declared.session.Session.{Session}
 use Rattle.secure_seal.specs.declared.frame.Direction.{Direction}
 use Rattle.secure_seal.specs.declared.frame.Direction.the-variants.{AcuToPd, PdToAcu}
 use Rattle.secure_seal.specs.Seal.{Asked, sealOf}
-use Rattle.secure_unseal.specs.Unseal.{Place, unsealOf}
+use Rattle.secure_unseal.specs.Unseal.{Place, unsealOf, placeAnswer}
 use Rattle.secure_unseal.specs.Lookup.{payloadShown}
+use Rattle.packet_head.specs.declared.header.Address.{Address}
+use Rattle.packet_head.specs.declared.header.Sqn.{Sqn}
+use Rattle.refusal.specs.Reading.{lengthAnswer}
 use Rattle.channel.specs.Carried.{onLine}
+use Rattle.channel.specs.declared.frames.Transferred.{Transferred}
 
 -- one frame of a conversation: who sends, what, and the buffers: `out` at the sender, `work` at the peer
 pub record Send : Type 0 where
@@ -46,10 +50,13 @@ unfoldable pub showing : List ℕ → List ℕ → Answer Place → Answer (List
 showing f w (given p) = given (payloadShown (p .inWork) (p .start) (p .len) f w)
 showing f w (refused n vs) = refused n vs
 
--- the sender and the peer after it
+-- the sender and the peer after it, both buffers, and where the peer found the payload
 pub record Moved : Type 0 where
   pub from : Session
   pub to : Session
+  pub out : List ℕ
+  pub work : List ℕ
+  pub place : Answer Place
   pub event : Event
 
 -- one end seals, and the other unseals what is on the line
@@ -61,6 +68,9 @@ transfer from to s =
     record {
       from = x .session;
       to = y .session;
+      out = x .out;
+      work = y .work;
+      place = y .answer;
       event = record {
         sealed = x .answer;
         frame = f;
@@ -86,3 +96,26 @@ talk c r [] = []
 talk c r (s ∷ ss) =
     let t = turn (s .who) c r s in
     t .event ∷ talk (t .controller) (t .reader) ss
+
+-- ---- the code's kinds, as the paper has them; `o` and `w` are the buffers in the end
+
+abbrev pub sendOf : End → Address → Sqn → Bool → ℕ → List ℕ → List ℕ → List ℕ → Send
+sendOf e a n h c x o w = record { who = e; addr = a .0; sqn = n .0; code = c; encrypt = h; payload = x; out = o; work = w }
+
+abbrev pub transferTold : Transferred → List ℕ → List ℕ → Moved
+transferTold r o w =
+    let f = onLine (lengthAnswer (r .sealed)) o in
+    record {
+      from = r .from;
+      to = r .to;
+      out = o;
+      work = w;
+      place = placeAnswer (r .opened);
+      event = record {
+        sealed = lengthAnswer (r .sealed);
+        frame = f;
+        sealCalls = r .«seal_calls»;
+        opened = showing f w (placeAnswer (r .opened));
+        openCalls = r .«open_calls»;
+      };
+    }
