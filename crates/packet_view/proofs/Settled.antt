@@ -1,4 +1,4 @@
--- The places and the view have one reading, so a promise on it settles them. The other promises are on the bytes of the answer, `now r`.
+-- The places and the view have one reading, so a promise on it settles them. A part of the frame is settled by `stretch-settled` (Stretches).
 -- Assumes nothing.
 use mathlib.Core.Path.{_≡_, refl}
 use mathlib.Core.Bool.{cond}

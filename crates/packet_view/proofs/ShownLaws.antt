@@ -102,6 +102,15 @@ pub refused-empty : (s : List ℕ) (n : ℕ) (vs : List ℕ) → parseOf s ≡ r
 unfolding blockDataOf payloadOf frameMacOf
 refused-empty s n vs e = (ap (bytesAt s blockPartOf) e, ap (bytesAt s dataIn) e, ap (bytesAt s macPartOf) e)
 
+-- each is then the frame's empty first part
+pub refused-first : (s : RefT (List ℕ)) (n : ℕ) (vs : List ℕ) → parseOf (now s) ≡ refused n vs
+    → (blockDataSeen s ≡ stretchIn s 0 []) × (payloadSeen s ≡ stretchIn s 0 []) × (frameMacSeen s ≡ stretchIn s 0 [])
+unfolding blockDataOf payloadOf frameMacOf
+refused-first s n vs e = (first blockPartOf, first dataIn, first macPartOf)
+  where
+    first : (p : Fields → Part) → stretchIn s (startAt p (parseOf (now s))) (bytesAt (now s) p (parseOf (now s))) ≡ stretchIn s 0 []
+    first p = ap (λ (x : Answer Fields). stretchIn s (startAt p x) (bytesAt (now s) p x)) e
+
 -- ---- of an accepted frame: the bytes there, and all of them
 
 module _ (s : List ℕ) (F : Fields) (e : parseOf s ≡ given F) where

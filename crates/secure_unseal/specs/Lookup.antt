@@ -5,15 +5,32 @@ use mathlib.Core.Bool.{Bool, cond}
 use mathlib.Core.List.{List, [], _∷_}
 use lib.Dec.{ltb}
 use lib.ListN.{length, take, drop}
+use denote.Ref.{RefT, now}
 use Rattle.laws.specs.Answer.{Answer, Answer.given, refuseIf}
+use Rattle.packet_view.specs.Stretch.{Stretch, stretchIn}
 
 -- the slice that a place is in
-abbrev pub sliceFor : Bool → List ℕ → List ℕ → List ℕ
+abbrev pub sliceFor : {A : Type 0} → Bool → A → A → A
 sliceFor inWork f w = cond inWork w f
 
--- the part of that slice, or the frame's empty first part
+-- whether the place runs past that slice's end
+abbrev pub runsOutside : Bool → ℕ → ℕ → List ℕ → List ℕ → Bool
+runsOutside inWork start len f w = ltb (length (sliceFor inWork f w)) (start + len)
+
+-- the bytes of the part, or none
 unfoldable pub payloadShown : Bool → ℕ → ℕ → List ℕ → List ℕ → List ℕ
-payloadShown inWork start len f w = cond (ltb (length (sliceFor inWork f w)) (start + len)) [] (take len (drop start (sliceFor inWork f w)))
+payloadShown inWork start len f w = cond (runsOutside inWork start len f w) [] (take len (drop start (sliceFor inWork f w)))
+
+-- the slice that it is a part of, and where it begins there: a place that runs outside has the frame's empty first part
+unfoldable pub lookupSlice : Bool → ℕ → ℕ → RefT (List ℕ) → RefT (List ℕ) → RefT (List ℕ)
+lookupSlice inWork start len f w = cond (runsOutside inWork start len (now f) (now w)) f (sliceFor inWork f w)
+
+unfoldable pub lookupStart : Bool → ℕ → ℕ → List ℕ → List ℕ → ℕ
+lookupStart inWork start len f w = cond (runsOutside inWork start len f w) 0 start
+
+-- the part, as a slice: these bytes, at that place of one of the caller's slices
+abbrev pub lookupSeen : Bool → ℕ → ℕ → RefT (List ℕ) → RefT (List ℕ) → Stretch
+lookupSeen inWork start len f w = stretchIn (lookupSlice inWork start len f w) (lookupStart inWork start len (now f) (now w)) (payloadShown inWork start len (now f) (now w))
 
 -- a number as 64 bits carry it
 abbrev pub saturated : ℕ → ℕ

@@ -3,7 +3,8 @@ ghost use mathlib.Core.Path.{_≡_};
 ghost use Prim.Native.Nat.{_+_};
 ghost use lib.Dec.{ltb};
 ghost use Rattle.refusal.specs.Reading.{outcomeAnswer};
-ghost use Rattle.secure_unseal.specs.Lookup.{payloadShown, saturated, placeTest, shownTest};
+ghost use Rattle.packet_view.specs.Stretch.{stretchOf};
+ghost use Rattle.secure_unseal.specs.Lookup.{lookupSeen, saturated, placeTest, shownTest};
 use refusal::Outcome;
 use refusal::Refusal;
 
@@ -36,7 +37,7 @@ pub fn payload<'a>(
     start: usize,
     len: usize,
 ) -> &'a [u8]
-    ensures { λ r. ⌜ now r ≡ payloadShown «in_work» start len (now (frame .entry)) (now (work .entry)) ⌝ }
+    ensures { λ r. ⌜ stretchOf r ≡ lookupSeen «in_work» start len (frame .entry) (work .entry) ⌝ }
 {
     if in_work {
         if outside(work.len(), start, len) {

@@ -14,7 +14,7 @@ returns : tie.Need-returns
 returns c =
     let i = c .before .before .before in
     let a = i .before .before .before .args in
-    shows-nothing (a .in-work) (a .start) (a .len) (a .frame .now) (a .work .now) (in-work _ _ (i .if1 .taken)) (c .before .before .outside .ensures) (c .before .if2 .taken)
+    shows-nothing (a .in-work) (a .start) (a .len) (a .frame) (a .work) (in-work _ _ (i .if1 .taken)) (c .before .before .outside .ensures) (c .before .if2 .taken)
 
 add-result : tie.Need-add-result
 add-result c =
@@ -30,13 +30,13 @@ returns-2 : tie.Need-returns-2
 returns-2 c =
     let i = c .before .before .before in
     let a = i .before .before .before .args in
-    shows-part (a .in-work) (a .start) (a .len) (a .frame .now) (a .work .now) (in-work _ _ (i .if1 .taken)) (c .before .before .outside .ensures) (c .before .if2 .left)
+    shows-part (a .in-work) (a .start) (a .len) (a .frame) (a .work) (in-work _ _ (i .if1 .taken)) (c .before .before .outside .ensures) (c .before .if2 .left)
 
 returns-3 : tie.Need-returns-3
 returns-3 c =
     let i = c .before .before .before in
     let a = i .before .before .before .args in
-    shows-nothing (a .in-work) (a .start) (a .len) (a .frame .now) (a .work .now) (in-frame _ _ (i .if1 .left)) (c .before .before .outside2 .ensures) (c .before .if3 .taken)
+    shows-nothing (a .in-work) (a .start) (a .len) (a .frame) (a .work) (in-frame _ _ (i .if1 .left)) (c .before .before .outside2 .ensures) (c .before .if3 .taken)
 
 add-result-2 : tie.Need-add-result-2
 add-result-2 c =
@@ -52,7 +52,7 @@ returns-4 : tie.Need-returns-4
 returns-4 c =
     let i = c .before .before .before in
     let a = i .before .before .before .args in
-    shows-part (a .in-work) (a .start) (a .len) (a .frame .now) (a .work .now) (in-frame _ _ (i .if1 .left)) (c .before .before .outside2 .ensures) (c .before .if3 .left)
+    shows-part (a .in-work) (a .start) (a .len) (a .frame) (a .work) (in-frame _ _ (i .if1 .left)) (c .before .before .outside2 .ensures) (c .before .if3 .left)
 
 pub payload-spec : {M : Type 1} → statement M
 payload-spec =
