@@ -12,7 +12,7 @@ use Rattle.laws.specs.Bytes.{xorl}
 use Rattle.laws.proofs.Listed.{length-blockOf, block-listed}
 use Rattle.aes_field.specs.Field.{_⊕_, xtime}
 use Rattle.aes.specs.KeyExpansion.{word, temp, power, words, keyExpansion}
-use Rattle.aes.specs.RoundKey.{keyByte, nextKey}
+use Rattle.aes.proofs.RoundKey.{keyByte, nextKey}
 
 -- words past p are words of what follows it
 word-past : (p x : List ℕ) (r j : ℕ) → length p ≡ 16 * r → word (p ++ x) (4 * r + j) ≡ word x j

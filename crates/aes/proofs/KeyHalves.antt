@@ -12,7 +12,7 @@ use Rattle.laws.proofs.Listed.{block-listed}
 use Rattle.aes_field.specs.Field.{_⊕_}
 use Rattle.aes_field.specs.Packed.{packed, unpacked}
 use Rattle.aes_field.proofs.Packing.{unpacked-xor, placed, empty, dropBytes, drop-bytes-is, byte}
-use Rattle.aes.specs.RoundKey.{keyByte, nextKey}
+use Rattle.aes.proofs.RoundKey.{keyByte, nextKey}
 use Rattle.aes.specs.Halves.{keyTurn, carry, part}
 
 -- the first column of l in the second's place

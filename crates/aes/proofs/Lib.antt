@@ -1,4 +1,5 @@
 mod Rounds
+pub mod RoundKey
 mod Steps
 mod Halves
 mod KeyHalves

@@ -12,19 +12,23 @@ use Rattle.packet_head.specs.declared.scb.ScsType.the-variants.{Scs11, S
 use Rattle.packet_head.specs.declared.scb.ScsAnswer.{ScsAnswer}
 use Rattle.packet_head.specs.declared.scb.ScbAnswer.{ScbAnswer}
 
+-- whether b is one of low to high
+abbrev pub between : ℕ → ℕ → ℕ → Bool
+between low high b = leb low b && leb b high
+
 -- 11 to 18, or refusal 6
 unfoldable pub scsOf : ℕ → Answer ℕ
-scsOf b = refuseIf (not (leb 0x11 b && leb b 0x18)) 6 (b ∷ []) (given b)
+scsOf b = refuseIf (not (between 0x11 0x18 b)) 6 (b ∷ []) (given b)
 
 -- 15 to 18 have a MAC, 17 and 18 encrypted data, 11 to 14 are the handshake's
 abbrev pub hasMac : ℕ → Bool
-hasMac ty = leb 0x15 ty
+hasMac ty = between 0x15 0x18 ty
 
 abbrev pub isEncrypted : ℕ → Bool
-isEncrypted ty = leb 0x17 ty
+isEncrypted ty = between 0x17 0x18 ty
 
 abbrev pub isHandshake : ℕ → Bool
-isHandshake ty = leb ty 0x14
+isHandshake ty = between 0x11 0x14 ty
 
 -- a block's type, and how many bytes of data it has
 abbrev pub BlockRead : Type 0

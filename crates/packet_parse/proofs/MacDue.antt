@@ -1,16 +1,16 @@
 -- Of an accepted frame: its block's type is one of the eight, and it has a MAC exactly where that is 15 to 18 (docs/RULES.md, 3.6).
 -- Assumes nothing.
 use mathlib.Core.Path.{_≡_, refl}
-use mathlib.Core.Bool.{Bool, true, false, _&&_, not}
+use mathlib.Core.Bool.{Bool, true, false}
 use mathlib.Core.List.{List}
 use Prim.Native.Nat.{ℕ, _+_, _≤_}
-use borrow.Author.Tests.{leb-true}
 use lib.Dec.{leb}
 use lib.ListN.{getD, take, drop}
 use Rattle.laws.specs.Answer.{Answer.given}
 use Rattle.laws.proofs.Answers.{Holds, holds-refuse, holds-choose, holds-then, holds-given}
 use Rattle.packet_head.specs.Header.{Control}
-use Rattle.packet_head.specs.Block.{BlockRead, hasMac, scsOf, scbOf}
+use Rattle.packet_head.specs.Block.{BlockRead, hasMac, scbOf}
+use Rattle.packet_head.proofs.Types.{between-above, type-bounds}
 use Rattle.packet_parse.specs.Frame.{Fields, BlockAt, BlockAt.noBlock, BlockAt.blockAt, MacAt, MacAt.noMac, MacAt.macFrom, typeIn, macAt, partsOf, frameOf, parseOf}
 
 abbrev pub there : MacAt → Bool
@@ -32,20 +32,11 @@ parts-due : (f : List ℕ) (a : ℕ) (c : Control) (b : BlockAt) (at : ℕ) → 
 unfolding partsOf
 parts-due f a c b at k = holds-refuse _ _ _ _ _ (λ _. holds-refuse _ _ _ _ _ (λ _. holds-then _ _ _ (λ t _. (k, there-at (hasMac (typeIn b)) _))))
 
-and-parts : (x y : Bool) → not (x && y) ≡ false → (x ≡ true) × (y ≡ true)
-and-parts true true e = (refl, refl)
-and-parts true false e = (refl, cc)
-and-parts false y e = (cc, cc)
-
-scs-known : (b : ℕ) → Holds (λ (ty : ℕ). (0x11 ≤ ty) × (ty ≤ 0x18)) (scsOf b)
-unfolding scsOf
-scs-known b = holds-refuse _ _ _ _ _ (λ k. let h = and-parts (leb 0x11 b) (leb b 0x18) k in (leb-true 0x11 b (h .0), leb-true b 0x18 (h .1)))
-
 read-type-known : (b : List ℕ) → Holds (λ (r : BlockRead). (0x11 ≤ r .0) × (r .0 ≤ 0x18)) (scbOf b)
 unfolding scbOf
 read-type-known b =
     holds-refuse _ _ _ _ _ (λ _. holds-refuse _ _ _ _ _ (λ _. holds-refuse _ _ _ _ _ (λ _.
-    holds-then _ _ _ (λ ty e. holds-given _ (scsOf (getD b 1 0)) ty (scs-known (getD b 1 0)) e))))
+    holds-then _ _ _ (λ ty e. type-bounds (getD b 1 0) ty e))))
 
 frame-due : (f : List ℕ) (a : ℕ) (c : Control) → Holds Due (frameOf f a c)
 unfolding frameOf
@@ -60,3 +51,11 @@ parse-due s = holds-then _ _ _ (λ h _. holds-refuse _ _ _ _ _ (λ _. frame-due 
 
 pub accepted-due : (s : List ℕ) (F : Fields) → parseOf s ≡ given F → Due F
 accepted-due s F e = holds-given Due (parseOf s) F (parse-due s) e
+
+block-type-one-bound : (b : BlockAt) → TypeKnown b → hasMac (typeIn b) ≡ leb 0x15 (typeIn b)
+block-type-one-bound noBlock k = refl
+block-type-one-bound (blockAt ty start len) k = between-above 0x15 0x18 ty (k .1)
+
+-- of the block that stands there, if one does, its lower bound alone tells whether a MAC is due
+pub accepted-one-bound : (s : List ℕ) (F : Fields) → parseOf s ≡ given F → hasMac (typeIn (F .block)) ≡ leb 0x15 (typeIn (F .block))
+accepted-one-bound s F e = block-type-one-bound (F .block) (accepted-due s F e .0)

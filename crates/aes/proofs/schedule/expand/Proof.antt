@@ -11,7 +11,7 @@ use borrow.Author.Needs.{needs}
 use Rattle.aes_field.specs.Field.{xtime}
 use Rattle.aes_field.specs.Packed.{unpacked}
 use Rattle.aes.specs.KeyExpansion.{power, keyExpansion}
-use Rattle.aes.specs.RoundKey.{nextKey}
+use Rattle.aes.proofs.RoundKey.{nextKey}
 use Rattle.aes.specs.Halves.{part}
 use Rattle.aes.proofs.KeyHalves.{key-halves, next-made}
 use Rattle.aes.proofs.Expansion.{Expanded, power-next, expanded-none, expanded-more, expanded-all}

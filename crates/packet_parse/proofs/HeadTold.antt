@@ -1,0 +1,102 @@
+-- Of an accepted frame: what its first five bytes say, and that a block stands in it exactly if CTRL has 08 (docs/RULES.md, 3.6).
+-- Assumes nothing.
+use mathlib.Core.Path.{_≡_, refl, sym, ap, _∙_}
+use mathlib.Core.Bool.{Bool, true, false}
+use mathlib.Core.List.{List}
+use Prim.Native.Nat.{ℕ, _+_, _/_, _%_, _<_}
+use native.Mathlib.Omega.{arith}
+use borrow.Author.Tests.{ltb-false, leb-false, eqb-true, not-false}
+use lib.Dec.{eqb}
+use lib.ListN.{length, getD, take}
+use lib.Seq.{length-take-le}
+use Rattle.laws.specs.Answer.{Answer.given}
+use Rattle.laws.proofs.Answers.{Holds, holds-refuse, holds-choose, holds-then, holds-given, holds-mono}
+use Rattle.packet_head.specs.Header.{Control, controlOf}
+use Rattle.packet_head.specs.Block.{hasMac}
+use Rattle.packet_parse.specs.Frame.{Head, Fields, BlockAt, BlockAt.noBlock, BlockAt.blockAt, lenOf, headOf, partsOf, frameOf, parseOf}
+
+-- whether a block stands in the frame
+abbrev pub standing : BlockAt → Bool
+standing noBlock = false
+standing (blockAt ty start len) = true
+
+-- whether CTRL, the fifth byte, has 08
+abbrev pub has08 : List ℕ → Bool
+has08 s = eqb (getD s 4 0 / 8 % 2) 1
+
+-- what the first five bytes of s say of the frame F
+pub record Told (s : List ℕ) (F : Fields) : Type 0 where
+  pub som : getD s 0 0 ≡ 0x53
+  pub addr : F .addr ≡ getD s 1 0
+  pub len : F .len ≡ lenOf s
+  pub low : getD s 4 0 < 0x10
+  pub ctrl : F .ctrl ≡ (getD s 4 0 % 4, eqb (getD s 4 0 / 4 % 2) 1, has08 s)
+  pub block : standing (F .block) ≡ has08 s
+
+-- ---- the head
+
+control-told : (b : ℕ) → Holds (λ c. (b < 0x10) × (c ≡ (b % 4, eqb (b / 4 % 2) 1, eqb (b / 8 % 2) 1))) (controlOf b)
+unfolding controlOf
+control-told b =
+    holds-refuse _ _ _ _ _ (λ h.
+    let k : b < 0x10 = leb-false 16 b h in
+    let e : b / 8 ≡ b / 8 % 2 = omega arith in
+    (k, λ i. (b % 4, eqb (b / 4 % 2) 1, eqb (e i) 1)))
+
+pub record HeadRead (s : List ℕ) (h : Head) : Type 0 where
+  pub som : getD s 0 0 ≡ 0x53
+  pub addr : h .addr ≡ getD s 1 0
+  pub len : h .len ≡ lenOf s
+  pub low : getD s 4 0 < 0x10
+  pub ctrl : h .ctrl ≡ (getD s 4 0 % 4, eqb (getD s 4 0 / 4 % 2) 1, has08 s)
+
+pub head-read : (s : List ℕ) → Holds (HeadRead s) (headOf s)
+unfolding headOf
+head-read s =
+    holds-refuse _ _ _ _ _ (λ _. holds-refuse _ _ _ _ _ (λ m. holds-then _ _ _ (λ c e.
+    let g = holds-given _ (controlOf (getD s 4 0)) c (control-told (getD s 4 0)) e in
+    record { som = eqb-true _ _ (not-false _ m); addr = refl; len = refl; low = g .0; ctrl = g .1 })))
+
+-- ---- the frame
+
+-- F has what was handed to the tests of the frame f
+pub record Kept (f : List ℕ) (a : ℕ) (c : Control) (F : Fields) : Type 0 where
+  pub addr : F .addr ≡ a
+  pub len : F .len ≡ length f
+  pub ctrl : F .ctrl ≡ c
+  pub block : standing (F .block) ≡ c .2
+
+parts-kept : (f : List ℕ) (a : ℕ) (c : Control) (b : BlockAt) (at : ℕ) (mac : Bool) → standing b ≡ c .2 → Holds (Kept f a c) (partsOf f a c b at mac)
+unfolding partsOf
+parts-kept f a c b at mac h = holds-refuse _ _ _ _ _ (λ _. holds-refuse _ _ _ _ _ (λ _. holds-then _ _ _ (λ t _. record { addr = refl; len = refl; ctrl = refl; block = h })))
+
+frame-kept : (f : List ℕ) (a : ℕ) (c : Control) → Holds (Kept f a c) (frameOf f a c)
+unfolding frameOf
+frame-kept f a c =
+    holds-refuse _ _ _ _ _ (λ _. holds-choose _ _ _ _
+    (λ e. holds-then _ _ _ (λ b _. parts-kept f a c (blockAt (b .0) 7 (b .1)) (7 + b .1) (hasMac (b .0)) (sym e)))
+    (λ e. parts-kept f a c noBlock 5 false (sym e)))
+
+told : (s : List ℕ) → Holds (Told s) (parseOf s)
+unfolding parseOf
+told s =
+    holds-then _ _ _ (λ h e. holds-refuse _ _ _ _ _ (λ l.
+    let n : length (take (h .len) s) ≡ h .len = length-take-le (h .len) s (ltb-false _ _ l) in
+    let g = holds-given (HeadRead s) (headOf s) h (head-read s) e in
+    holds-mono (Kept (take (h .len) s) (h .addr) (h .ctrl)) (Told s) (frameOf (take (h .len) s) (h .addr) (h .ctrl))
+    (λ F k. record {
+      som = g .som;
+      addr = k .addr ∙ g .addr;
+      len = k .len ∙ n ∙ g .len;
+      low = g .low;
+      ctrl = k .ctrl ∙ g .ctrl;
+      block = k .block ∙ ap (λ (c : Control). c .2) (g .ctrl);
+    })
+    (frame-kept (take (h .len) s) (h .addr) (h .ctrl))))
+
+pub accepted-told : (s : List ℕ) (F : Fields) → parseOf s ≡ given F → Told s F
+accepted-told s F e = holds-given (Told s) (parseOf s) F (told s) e
+
+-- A block stands in an accepted frame exactly if CTRL has 08.
+pub accepted-block : (s : List ℕ) (F : Fields) → parseOf s ≡ given F → standing (F .block) ≡ has08 s
+accepted-block s F e = accepted-told s F e .block
