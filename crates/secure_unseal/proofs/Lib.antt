@@ -4,3 +4,4 @@ pub mod Inside
 pub mod LookupLaws
 pub mod Settled
 pub mod UnsealLaws
+pub mod UnsealCalls

@@ -1,3 +1,4 @@
 pub mod Unseal
 pub mod Lookup
+pub mod Calls
 pub mod Parts
