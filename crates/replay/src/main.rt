@@ -1,6 +1,6 @@
-// Stored cases beside the proved calls. Standard input has a part for each call: its number, with 128 added where the call is lent a
-// buffer, how many cases there are, its name; then the cases, each what the call is handed and the answer that the oracle gives
-// (oracle/store writes them). A line for each call tells how many of its cases agree.
+// Stored cases beside the proved calls. Standard input has a part for each call, and one for each worked case of the paper: the call's
+// number, with 128 added where it is lent a buffer, how many cases there are, their name; then the cases, each what the call is handed
+// and the answer that the oracle gives (oracle/store writes them). A line for each part tells how many of its cases agree.
 mod ciphers;
 mod frames;
 mod given;

@@ -1,5 +1,6 @@
 //! What is asked. `count` sets how many of the random cases there are; the exhaustive ones are always asked in full.
 use crate::Compare;
+use crate::named;
 use crate::rust::Ask;
 use crate::talk;
 use crate::wire::*;
@@ -346,6 +347,7 @@ fn ciphers(c: &mut Compare, r: &mut Random, count: u64) {
 
 pub fn all(c: &mut Compare, seed: u64, count: u64) {
     let mut r = Random::new(seed);
+    named::all().into_iter().for_each(|case| c.named(case));
     bytes(c);
     exhaustive(c);
     sums(c, &mut r, count);

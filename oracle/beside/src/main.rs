@@ -1,6 +1,7 @@
 //! beside SEED COUNT COMMAND..: asks the Rust and the proved side the same, and tells where they differ.
 //! beside SEED COUNT --store CASES LINES: asks the Rust alone, and stores some of the cases and what crates/replay tells of them.
 mod cases;
+mod named;
 mod rust;
 mod second;
 mod session;
@@ -8,8 +9,9 @@ mod store;
 mod talk;
 mod wire;
 
-use std::collections::BTreeMap;
+use named::{Named, Tally};
 use rust::Answer;
+use std::collections::BTreeMap;
 use store::Store;
 use wire::{NAMES, Ours};
 
@@ -25,6 +27,7 @@ pub struct Compare {
     refused: BTreeMap<(u8, u8), u64>,
     wrong: u64,
     smallest: Option<(u8, Vec<u8>, Vec<u8>, Vec<u8>)>,
+    paper: Tally,
 }
 
 const BATCH: usize = 1 << 20;
@@ -32,7 +35,7 @@ const BATCH: usize = 1 << 20;
 impl Compare {
     fn new(ours: Option<Ours>, store: Option<Store>) -> Self {
         let (calls, intended, refused) = ([0; NAMES.len()], BTreeMap::new(), BTreeMap::new());
-        Self { ours, store, batch: Vec::new(), asked: Vec::new(), calls, intended, refused, wrong: 0, smallest: None }
+        Self { ours, store, batch: Vec::new(), asked: Vec::new(), calls, intended, refused, wrong: 0, smallest: None, paper: Tally::default() }
     }
 
     pub fn ask(&mut self, op: u8, input: Vec<u8>) {
@@ -47,14 +50,26 @@ impl Compare {
         told
     }
 
+    /// One of the paper's cases. The two sides are held against each other, as in any case, and each against the paper.
+    pub fn named(&mut self, case: Named) {
+        let (want, difference) = rust::call(case.op, &case.input);
+        if let Some(store) = &mut self.store {
+            self.paper.judge(&case, &[("the Rust", &want.0)]);
+            return store.keep(case, want.0);
+        }
+        let ours = self.ours.as_mut().unwrap();
+        ours.send(&wire::request(case.op, &case.input));
+        let got = ours.receive().split_off(4);
+        self.paper.judge(&case, &[("the Rust", &want.0), ("ours", &got)]);
+        self.compare(case.op, case.input, &want.0, &got, difference);
+    }
+
     fn push(&mut self, op: u8, input: Vec<u8>, answer: Option<Answer>) {
         if let Some(store) = &mut self.store {
             let answer = answer.unwrap_or_else(|| rust::call(op, &input));
             return store.see(op, input, answer.0.0);
         }
-        self.batch.push(op);
-        self.batch.extend_from_slice(&(input.len() as u32).to_le_bytes());
-        self.batch.extend_from_slice(&input);
+        self.batch.extend_from_slice(&wire::request(op, &input));
         self.asked.push((op, input, answer));
         if self.batch.len() >= BATCH {
             self.flush();
@@ -98,6 +113,7 @@ impl Compare {
     }
 
     fn report(self) -> bool {
+        let named = self.paper.report();
         println!("call: comparisons; answers by refusal number (0: given)");
         for (op, n) in self.calls.iter().enumerate().filter(|c| *c.1 > 0) {
             let kinds: Vec<_> = self.refused.iter().filter(|r| r.0.0 as usize == op).map(|r| format!("{}: {}", r.0.1, r.1)).collect();
@@ -111,12 +127,12 @@ impl Compare {
         if let Some((op, input, want, got)) = self.smallest {
             println!("smallest difference, of {} bytes, in {}:", input.len(), NAMES[op as usize]);
             for (what, bytes) in [("input", &input), ("Rust", &want), ("ours", &got)] {
-                println!("  {what}: {}", bytes.iter().take(200).map(|b| format!("{b:02X}")).collect::<Vec<_>>().join(" "));
+                println!("  {what}: {}", wire::shown(bytes));
             }
         }
         self.ours.unwrap().end();
         println!("{total} comparisons, {} differences that are on no list", self.wrong);
-        self.wrong == 0
+        named && self.wrong == 0
     }
 }
 
@@ -128,6 +144,9 @@ fn main() {
     if args[3] == "--store" {
         let mut compare = Compare::new(None, Some(Store::new(seed)));
         cases::all(&mut compare, seed, count);
+        if !compare.paper.report() {
+            std::process::exit(1);
+        }
         let (cases, lines) = compare.store.unwrap().written();
         std::fs::write(&args[4], cases).expect("the cases cannot be written");
         std::fs::write(&args[5], lines).expect("the lines cannot be written");

@@ -84,6 +84,16 @@ pub fn u32_at(bytes: &[u8], at: usize) -> usize {
     u32::from_le_bytes(array(bytes, at)) as usize
 }
 
+/// A request, as it travels.
+pub fn request(op: u8, input: &[u8]) -> Vec<u8> {
+    [&[op][..], &(input.len() as u32).to_le_bytes(), input].concat()
+}
+
+/// The first 200 bytes, for a reader.
+pub fn shown(bytes: &[u8]) -> String {
+    bytes.iter().take(200).map(|b| format!("{b:02X}")).collect::<Vec<_>>().join(" ")
+}
+
 /// Bytes of an answer, put one after the other.
 #[derive(Default, Clone, PartialEq, Eq)]
 pub struct Out(pub Vec<u8>);
