@@ -37,7 +37,12 @@ fn main() {
         table::print_lengths(&rows::every_length(128));
         return;
     }
-    table::print(&rows::beside(&part), &child(true), &child(false));
+    let rows = rows::beside(&part);
+    if rows.is_empty() {
+        eprintln!("no row has '{part}' in its name");
+        std::process::exit(2);
+    }
+    table::print(&rows, &child(true), &child(false));
     if part.is_empty() {
         println!();
         table::print_growth(&rows::GROWING, &rows::growth());
