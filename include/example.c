@@ -1,5 +1,8 @@
-/* A handshake between a controller and a reader, and one encrypted frame sealed and opened.
-   Build, once `rt staticlib ffi` has written the archive: cc -Iinclude include/example.c target/staticlib/libffi.a */
+/* A handshake between a controller and a reader, then three commands and their replies, sealed, opened, and at the end both sessions wiped.
+   Build, once include/archive has made the archive:
+       export PKG_CONFIG_PATH=target/archive/$(uname -m)
+       cc include/example.c $(pkg-config --cflags --libs malstrink)
+   While you work on a program, compile it with -DMALSTRINK_CHECK as well: buffers that overlap are then caught. */
 #include "malstrink.h"
 #include <stdio.h>
 #include <stdlib.h>
@@ -7,55 +10,71 @@
 
 static void ask(MalstrinkAnswer a, const char *call)
 {
-    if (a.refusal != 0) {
+    if (a.refusal != MALSTRINK_REFUSAL_NONE) {
         printf("%s refused by %u\n", call, a.refusal);
         exit(1);
     }
 }
 
-static MalstrinkBytes16 sixteen(const uint8_t *bytes)
+/* One end seals text, the other opens it. Three buffers, and no two share a byte: what is sealed, the frame on the line, and the room
+   in which the other end opens it. Both sessions move on: a frame is opened once, and the next one is sealed from where this one left. */
+static void carry(MalstrinkSession *from, MalstrinkSession *to, MalstrinkToSeal p, const char *text)
 {
-    MalstrinkBytes16 b;
-    memcpy(b.bytes, bytes, 16);
-    return b;
+    const uint8_t *data = (const uint8_t *)text;
+    const size_t n = strlen(text);
+    uint8_t frame[128], work[128];
+    MalstrinkCiphered sealed = malstrink_seal_in(from, p, data, n, frame, sizeof frame);
+    ask(sealed.answer, "seal");
+    MalstrinkOpened opened = malstrink_unseal_in(to, frame, sealed.answer.a, work, sizeof work);
+    ask(opened.answer, "unseal");
+    if (opened.len != n || memcmp(opened.payload, data, n) != 0 || memcmp(from->chain, to->chain, 16) != 0) {
+        puts("the payload or the chain differs");
+        exit(1);
+    }
+    printf("sqn %u, frame of %zu bytes, %zu cipher calls, opened: %.*s\n", p.sqn, sealed.answer.a, sealed.calls, (int)opened.len,
+           (const char *)opened.payload);
+    malstrink_clear(work, sizeof work);
 }
 
 int main(void)
 {
-    /* fixed here; both random numbers must be fresh for each handshake */
-    MalstrinkBytes16 scbk = { { 0x30, 0x31, 0x32, 0x33, 0x34, 0x35, 0x36, 0x37, 0x38, 0x39, 0x3A, 0x3B, 0x3C, 0x3D, 0x3E, 0x3F } };
-    MalstrinkBytes8 cuid = { { 1, 2, 3, 4, 5, 6, 7, 8 } };
-    MalstrinkBytes8 rnd_a = { { 0xA0, 0xA1, 0xA2, 0xA3, 0xA4, 0xA5, 0xA6, 0xA7 } };
-    MalstrinkBytes8 rnd_b = { { 0xB0, 0xB1, 0xB2, 0xB3, 0xB4, 0xB5, 0xB6, 0xB7 } };
+    /* A key made up for this example. It is not OSDP's published default (30 31 .. 3F), which everybody has: give each reader
+       a key of its own. The random numbers are fixed here; both must be fresh for each handshake. */
+    static const uint8_t made_up[16] = { 0x6E, 0xC4, 0x1B, 0x93, 0xF7, 0x28, 0x5D, 0xA0, 0x81, 0x3C, 0xE9, 0x56, 0x0F, 0xBA, 0x74, 0xD2 };
+    static const uint8_t cuid[8] = { 1, 2, 3, 4, 5, 6, 7, 8 };
+    static const uint8_t rnd_a[8] = { 0xA0, 0xA1, 0xA2, 0xA3, 0xA4, 0xA5, 0xA6, 0xA7 };
+    static const uint8_t rnd_b[8] = { 0xB0, 0xB1, 0xB2, 0xB3, 0xB4, 0xB5, 0xB6, 0xB7 };
+    uint8_t scbk[16], client[16], server[16], first[16];
+    MalstrinkSession controller, reader;
 
-    MalstrinkStepped c = malstrink_session_challenge(malstrink_session_new(scbk), rnd_a);
-    ask(c.answer, "challenge");
-    MalstrinkSteppedBlock r = malstrink_session_receive_challenge(malstrink_session_new_reader(scbk, cuid), rnd_a, rnd_b);
-    ask(r.answer, "receive_challenge");
-    c = malstrink_session_receive_ccrypt(c.session, cuid, rnd_b, sixteen(r.block));
-    ask(c.answer, "receive_ccrypt");
-    MalstrinkBlockAnswer server = malstrink_session_server_cryptogram(c.session);
-    ask(server.answer, "server_cryptogram");
-    r = malstrink_session_receive_scrypt(r.session, sixteen(server.block));
-    ask(r.answer, "receive_scrypt");
-    c = malstrink_session_confirm_rmac_i(c.session, sixteen(r.block));
-    ask(c.answer, "confirm_rmac_i");
+    memcpy(scbk, made_up, 16);
+    malstrink_session_new_in(&controller, scbk);
+    malstrink_session_new_reader_in(&reader, scbk, cuid);
+    malstrink_clear(scbk, sizeof scbk);
 
-    static const uint8_t payload[] = "cabinet 12, shelf 3";
-    const size_t n = sizeof payload - 1;
-    uint8_t frame[128], work[128];
-    MalstrinkToSeal p = { .addr = 5, .sqn = 1, .from_reader = false, .encrypt = true, .code = 0x69 };
-    MalstrinkSealed sealed = malstrink_seal(c.session, p, payload, n, frame, sizeof frame);
-    ask(sealed.answer, "seal");
-    MalstrinkUnsealed opened = malstrink_unseal(r.session, frame, sealed.answer.a, work, sizeof work);
-    ask(opened.answer, "unseal");
-    ask(malstrink_payload_test(frame, sealed.answer.a, work, sizeof work, opened.in_work, opened.start, opened.len), "payload_test");
+    ask(malstrink_session_challenge_in(&controller, rnd_a), "challenge");
+    ask(malstrink_session_receive_challenge_in(&reader, rnd_a, rnd_b, client), "receive_challenge");
+    ask(malstrink_session_receive_ccrypt_in(&controller, cuid, rnd_b, client), "receive_ccrypt");
+    ask(malstrink_session_server_cryptogram_in(&controller, server), "server_cryptogram");
+    ask(malstrink_session_receive_scrypt_in(&reader, server, first), "receive_scrypt");
+    ask(malstrink_session_confirm_rmac_i_in(&controller, first), "confirm_rmac_i");
 
-    const uint8_t *shown = (opened.in_work ? work : frame) + opened.start;
-    if (opened.len != n || memcmp(shown, payload, n) != 0 || memcmp(sealed.session.chain, opened.session.chain, 16) != 0) {
-        puts("the payload or the chain differs");
-        return 1;
+    /* A connection begins with 0; the handshake's two commands went out with 1 and 2. Each new command takes the next number, which
+       after 3 is 1, and a reply has its command's. */
+    static const char *const said[3] = { "open cabinet 12", "lamp on shelf 3", "close cabinet 12" };
+    uint8_t sqn = 2;
+    for (int i = 0; i < 3; i++) {
+        MalstrinkAnswer next = malstrink_sqn_next(sqn);
+        ask(next, "sqn_next");
+        sqn = (uint8_t)next.a;
+        /* address, sequence number, from the reader?, encrypted?, code */
+        const MalstrinkToSeal command = { 5, sqn, false, true, 0x80 };
+        const MalstrinkToSeal reply = { 0x85, sqn, true, true, 0x90 };
+        carry(&controller, &reader, command, said[i]);
+        carry(&reader, &controller, reply, "done");
     }
-    printf("frame of %zu bytes, %zu cipher calls, opened: %.*s\n", sealed.answer.a, sealed.calls, (int)opened.len, (const char *)shown);
+
+    malstrink_session_wipe_in(&controller);
+    malstrink_session_wipe_in(&reader);
     return 0;
 }

@@ -1,16 +1,94 @@
-/* Malstrink for C: link target/staticlib/libffi.a (made by `rt staticlib ffi`), x86-64 only.
+/* Malstrink for C and C++: OSDP frames, the secure handshake at both ends, sealing and opening.
 
-   No call keeps a pointer, allocates, or fails in another way than by its answer. A slice is a pointer and a length; a pointer of
-   length 0 is not looked at. A lent buffer is written only where the answer says so: after a refusal it is as it was, with two
-   exceptions that leave no half-opened data behind: a deciphering refused by 14 zeroes the data's length in out, and an unsealing of
-   type 17 or 18 refused by 14 or 15 zeroes the encrypted data's length at the front of work. The bytes after that stay. */
+   Link libmalstrink.a, which include/archive proves and makes, for x86-64 and for aarch64 (docs/RULES.md has what each call does).
+   The archive needs memcpy and memset and nothing else; it keeps to the System V ABI of x86-64, or to the AAPCS64, and is ELF. Sizes are
+   of 64 bits there, and the proofs are for 64-bit sizes: on a 32-bit machine nothing here is proved, and nothing is made for one.
+   Wants C99 or C++11, and gcc or clang.
+
+   WHAT A CALLER OWES. A slice is a pointer and a length, of bytes that are there; a pointer of length 0 is not looked at. Of slices
+   that are lent to one call together, one that is written (out, work) must share no byte with another, nor with the session: that is
+   what restrict says below. A seal whose data stands in its own out answers 0 and seals other bytes. The proofs take it as given and the
+   calls cannot see it. Compiled with -DMALSTRINK_CHECK, every call through this header looks first, and where two overlap says on
+   stderr which, and aborts. Two slices that are only read may overlap.
+
+   No call keeps a pointer, allocates, or fails in another way than by its answer. A lent buffer is written only where the answer says so:
+   after a refusal it is as it was, with two exceptions that leave no half-opened data behind: a deciphering refused by 14 zeroes the
+   data's length in out, and an unsealing of type 17 or 18 refused by 14 or 15 zeroes the encrypted data's length at the front of work. The
+   bytes after that stay. */
 #ifndef MALSTRINK_H
 #define MALSTRINK_H
+
+#if !defined(__ELF__) || !defined(__LP64__) || \
+    !(defined(__x86_64__) || (defined(__aarch64__) && defined(__BYTE_ORDER__) && __BYTE_ORDER__ == __ORDER_LITTLE_ENDIAN__))
+#error "libmalstrink.a is for x86-64 and aarch64, 64-bit, low byte first, ELF: there is none for this machine, and no proof"
+#endif
+
 #include <stdbool.h>
 #include <stddef.h>
 #include <stdint.h>
+#ifdef MALSTRINK_CHECK
+#include <stdio.h>
+#include <stdlib.h>
+#endif
 
-/* refusal 0: a is what was asked for. Otherwise the refusal's number (docs/RULES.md, 1) and the values that it carries, in order. */
+#define MALSTRINK_VERSION "0.1.0"
+#define MALSTRINK_VERSION_MAJOR 0
+#define MALSTRINK_VERSION_MINOR 1
+#define MALSTRINK_VERSION_PATCH 0
+
+#ifdef __cplusplus
+#define MALSTRINK_RESTRICT __restrict__
+extern "C" {
+#else
+#define MALSTRINK_RESTRICT restrict
+#endif
+
+/* ---- numbers */
+/* the refusals (docs/RULES.md, 1.2) */
+enum {
+    MALSTRINK_REFUSAL_NONE = 0,
+    MALSTRINK_REFUSAL_TRUNCATED = 1,
+    MALSTRINK_REFUSAL_BAD_SOM = 2,
+    MALSTRINK_REFUSAL_BAD_CONTROL_BYTE = 3,
+    MALSTRINK_REFUSAL_BAD_LENGTH = 4,
+    MALSTRINK_REFUSAL_BAD_SECURITY_BLOCK_LENGTH = 5,
+    MALSTRINK_REFUSAL_BAD_SECURITY_BLOCK = 6,
+    MALSTRINK_REFUSAL_BAD_CRC = 7,
+    MALSTRINK_REFUSAL_BAD_CHECKSUM = 8,
+    MALSTRINK_REFUSAL_BAD_ADDRESS = 9,
+    MALSTRINK_REFUSAL_BAD_SQN = 10,
+    MALSTRINK_REFUSAL_BAD_MAC = 11,
+    MALSTRINK_REFUSAL_BUFFER_OVERFLOW = 12,
+    MALSTRINK_REFUSAL_NOT_SECURE = 13,
+    MALSTRINK_REFUSAL_BAD_PADDING = 14,
+    MALSTRINK_REFUSAL_BAD_CRYPTOGRAM = 15,
+    MALSTRINK_REFUSAL_WRONG_STATE = 16,
+    MALSTRINK_REFUSAL_BLOCK_TOO_LONG = 17,
+    MALSTRINK_REFUSAL_NO_ROOM = 18
+};
+/* a session's end and state */
+enum { MALSTRINK_END_CONTROLLER = 0, MALSTRINK_END_READER = 1 };
+enum {
+    MALSTRINK_STATE_DISCONNECTED = 0,
+    MALSTRINK_STATE_CHALLENGED = 1,
+    MALSTRINK_STATE_CRYPTOGRAMMED = 2,
+    MALSTRINK_STATE_SECURE = 3
+};
+/* block types (docs/RULES.md, 2.4): odd from the controller, even but for 11 from the reader; 11 to 14 are the handshake's, 15 and 16
+   sealed, 17 and 18 sealed and encrypted; no block is 0 */
+enum {
+    MALSTRINK_BLOCK_NONE = 0,
+    MALSTRINK_BLOCK_11 = 0x11,
+    MALSTRINK_BLOCK_12 = 0x12,
+    MALSTRINK_BLOCK_13 = 0x13,
+    MALSTRINK_BLOCK_14 = 0x14,
+    MALSTRINK_BLOCK_15 = 0x15,
+    MALSTRINK_BLOCK_16 = 0x16,
+    MALSTRINK_BLOCK_17 = 0x17,
+    MALSTRINK_BLOCK_18 = 0x18
+};
+
+/* refusal 0: a is what was asked for. Otherwise the refusal's number and the values that it carries, in order. */
 typedef struct { uint8_t refusal; size_t a, b; } MalstrinkAnswer;
 
 /* An array crosses inside a struct. */
@@ -52,14 +130,15 @@ MalstrinkBlock malstrink_block(const uint8_t *bytes, size_t n);
 MalstrinkHead malstrink_head(const uint8_t *bytes, size_t n);
 MalstrinkParsed malstrink_parse(const uint8_t *bytes, size_t n);
 
-/* ---- building; block is the control byte's flag, block_type 0 where there is no block. a: how many bytes were written */
+/* ---- building; block is the control byte's flag, block_type 0 where there is no block. a: how many bytes were written.
+   out overlaps neither block nor data */
 typedef struct { uint8_t addr, sqn; bool crc, block; uint8_t block_type, code; } MalstrinkPacket;
 typedef struct { bool given; uint8_t b0, b1, b2, b3; } MalstrinkMac;
 MalstrinkAnswer malstrink_build(MalstrinkPacket p, const uint8_t *block, size_t block_n, const uint8_t *data, size_t data_n,
-                                MalstrinkMac mac, uint8_t *out, size_t out_n);
+                                MalstrinkMac mac, uint8_t *MALSTRINK_RESTRICT out, size_t out_n);
 /* what a MAC is worked out over: from 53 to the end of data */
 MalstrinkAnswer malstrink_build_body(MalstrinkPacket p, const uint8_t *block, size_t block_n, const uint8_t *data, size_t data_n,
-                                     uint8_t *out, size_t out_n);
+                                     uint8_t *MALSTRINK_RESTRICT out, size_t out_n);
 
 /* ---- keys */
 typedef struct { uint8_t s_enc[16], s_mac1[16], s_mac2[16]; } MalstrinkKeys;
@@ -71,22 +150,23 @@ MalstrinkBytes16 malstrink_server_cryptogram(MalstrinkBytes16 s_enc, MalstrinkBy
 MalstrinkBytes16 malstrink_initial_rmac(MalstrinkBytes16 s_mac1, MalstrinkBytes16 s_mac2, MalstrinkBytes16 server);
 MalstrinkBytes16 malstrink_diversify_scbk_legacy(MalstrinkBytes16 mk, MalstrinkBytes8 cuid);
 
-/* ---- padding, MAC and CBC; calls: how often the cipher was called, key expansion not counted */
+/* ---- padding, MAC and CBC; calls: how often the cipher was called, key expansion not counted. data and out do not overlap */
 typedef struct { MalstrinkAnswer answer; size_t calls; } MalstrinkCiphered;
 typedef struct { uint8_t full[16]; size_t calls; } MalstrinkChain;
-MalstrinkAnswer malstrink_pad_mac(const uint8_t *data, size_t data_n, uint8_t *out, size_t out_n);
-MalstrinkAnswer malstrink_pad_data(const uint8_t *data, size_t data_n, uint8_t *out, size_t out_n);
+MalstrinkAnswer malstrink_pad_mac(const uint8_t *MALSTRINK_RESTRICT data, size_t data_n, uint8_t *MALSTRINK_RESTRICT out, size_t out_n);
+MalstrinkAnswer malstrink_pad_data(const uint8_t *MALSTRINK_RESTRICT data, size_t data_n, uint8_t *MALSTRINK_RESTRICT out, size_t out_n);
 MalstrinkAnswer malstrink_unpad_data(const uint8_t *bytes, size_t n);
 MalstrinkBytes16 malstrink_complement_icv(MalstrinkBytes16 mac);
 MalstrinkChain malstrink_cbc_mac(const uint8_t *input, size_t n, MalstrinkBytes16 icv, MalstrinkBytes16 s_mac1, MalstrinkBytes16 s_mac2);
-MalstrinkCiphered malstrink_encrypt_data(MalstrinkBytes16 s_enc, MalstrinkBytes16 iv, const uint8_t *data, size_t data_n, uint8_t *out,
-                                         size_t out_n);
-MalstrinkCiphered malstrink_decrypt_data(MalstrinkBytes16 s_enc, MalstrinkBytes16 iv, const uint8_t *data, size_t data_n, uint8_t *out,
-                                         size_t out_n);
+MalstrinkCiphered malstrink_encrypt_data(MalstrinkBytes16 s_enc, MalstrinkBytes16 iv, const uint8_t *MALSTRINK_RESTRICT data, size_t data_n,
+                                         uint8_t *MALSTRINK_RESTRICT out, size_t out_n);
+MalstrinkCiphered malstrink_decrypt_data(MalstrinkBytes16 s_enc, MalstrinkBytes16 iv, const uint8_t *MALSTRINK_RESTRICT data, size_t data_n,
+                                         uint8_t *MALSTRINK_RESTRICT out, size_t out_n);
 
-/* ---- sessions: they cross by value, and the answer brings the session after the call.
-   end: 0 controller, 1 reader. state: 0 Disconnected, 1 Challenged, 2 Cryptogrammed, 3 Secure. A session with another number in
-   either is refused by 16 and comes back unchanged. Beside a refusal, block and keys are zeros. */
+/* ---- sessions, by value: the answer brings the session after the call, and the old one, with its keys, stays where the caller had it.
+   The forms further down, on a pointer, leave one session and no copy: take those where you can.
+   A session with an end or a state that is none of the numbers above is refused by 16 and comes back unchanged. Beside a refusal,
+   block and keys are zeros. */
 typedef struct {
     uint8_t end, state;
     uint8_t scbk[16], rnd_a[8], rnd_b[8], cuid[8];
@@ -99,7 +179,8 @@ typedef struct { MalstrinkAnswer answer; uint8_t block[16]; } MalstrinkBlockAnsw
 typedef struct { MalstrinkAnswer answer; MalstrinkKeys keys; } MalstrinkKeysAnswer;
 MalstrinkSession malstrink_session_new(MalstrinkBytes16 scbk);
 MalstrinkSession malstrink_session_new_reader(MalstrinkBytes16 scbk, MalstrinkBytes8 cuid);
-/* zeroes all but end, whatever the numbers in end and state */
+/* a session that is zero in all but end, whatever the numbers in end and state. s = malstrink_session_wipe(s) need not clear s:
+   a compiler drops stores that nothing reads. malstrink_session_wipe_in does */
 MalstrinkSession malstrink_session_wipe(MalstrinkSession s);
 /* the controller's end */
 MalstrinkStepped malstrink_session_challenge(MalstrinkSession s, MalstrinkBytes8 rnd_a);
@@ -111,23 +192,443 @@ MalstrinkStepped malstrink_session_confirm_rmac_i(MalstrinkSession s, MalstrinkB
 /* the reader's end */
 MalstrinkSteppedBlock malstrink_session_receive_challenge(MalstrinkSession s, MalstrinkBytes8 rnd_a, MalstrinkBytes8 rnd_b);
 MalstrinkSteppedBlock malstrink_session_receive_scrypt(MalstrinkSession s, MalstrinkBytes16 server_cryptogram);
-/* either end, once it is Secure */
+/* either end, once it is Secure; data and out do not overlap */
 MalstrinkSteppedBlock malstrink_session_mac(MalstrinkSession s, const uint8_t *bytes, size_t n);
 MalstrinkStepped malstrink_session_verify(MalstrinkSession s, const uint8_t *bytes, size_t n, MalstrinkBytes4 wire_mac);
 MalstrinkKeysAnswer malstrink_session_keys(MalstrinkSession s);
 MalstrinkBlockAnswer malstrink_session_last_other_mac(MalstrinkSession s);
-MalstrinkCiphered malstrink_session_seal_data(MalstrinkSession s, const uint8_t *data, size_t data_n, uint8_t *out, size_t out_n);
-MalstrinkCiphered malstrink_session_open_data(MalstrinkSession s, const uint8_t *data, size_t data_n, uint8_t *out, size_t out_n);
+MalstrinkCiphered malstrink_session_seal_data(MalstrinkSession s, const uint8_t *MALSTRINK_RESTRICT data, size_t data_n,
+                                              uint8_t *MALSTRINK_RESTRICT out, size_t out_n);
+MalstrinkCiphered malstrink_session_open_data(MalstrinkSession s, const uint8_t *MALSTRINK_RESTRICT data, size_t data_n,
+                                              uint8_t *MALSTRINK_RESTRICT out, size_t out_n);
 
-/* ---- sealed frames */
+/* ---- sealed frames, by value */
 typedef struct { uint8_t addr, sqn; bool from_reader, encrypt; uint8_t code; } MalstrinkToSeal;
 /* the answer's a: how long the frame in out is */
 typedef struct { MalstrinkAnswer answer; size_t calls; MalstrinkSession session; } MalstrinkSealed;
 /* where the payload stands: in the work buffer, or (plain) in the frame itself; all 0 beside a refusal */
 typedef struct { MalstrinkAnswer answer; bool in_work; size_t start, len, calls; MalstrinkSession session; } MalstrinkUnsealed;
-MalstrinkSealed malstrink_seal(MalstrinkSession s, MalstrinkToSeal p, const uint8_t *data, size_t data_n, uint8_t *out, size_t out_n);
-MalstrinkUnsealed malstrink_unseal(MalstrinkSession s, const uint8_t *frame, size_t frame_n, uint8_t *work, size_t work_n);
+/* data and out do not overlap */
+MalstrinkSealed malstrink_seal(MalstrinkSession s, MalstrinkToSeal p, const uint8_t *MALSTRINK_RESTRICT data, size_t data_n,
+                               uint8_t *MALSTRINK_RESTRICT out, size_t out_n);
+/* frame and work do not overlap */
+MalstrinkUnsealed malstrink_unseal(MalstrinkSession s, const uint8_t *MALSTRINK_RESTRICT frame, size_t frame_n,
+                                   uint8_t *MALSTRINK_RESTRICT work, size_t work_n);
 /* refused by 1 (the slice's length, the end needed) where a place runs outside its slice */
 MalstrinkAnswer malstrink_payload_test(const uint8_t *frame, size_t frame_n, const uint8_t *work, size_t work_n, bool in_work, size_t start,
                                        size_t len);
+
+/* ================ What follows is C over the proved calls: not proved, and tested by include/test. ================ */
+
+/* ---- MALSTRINK_CHECK: do slices overlap that must not? */
+#ifdef MALSTRINK_CHECK
+static inline void malstrink_no_overlap(const char *call, const char *one, const void *p, size_t n, const char *other, const void *q, size_t m)
+{
+    const uintptr_t a = (uintptr_t)p, b = (uintptr_t)q;
+    if (n != 0 && m != 0 && (a <= b ? b - a < n : a - b < m)) {
+        fprintf(stderr, "malstrink: %s: %s and %s overlap\n", call, one, other);
+        abort();
+    }
+}
+
+static inline MalstrinkAnswer malstrink_checked_build(MalstrinkPacket p, const uint8_t *block, size_t block_n, const uint8_t *data, size_t data_n,
+                                                      MalstrinkMac mac, uint8_t *out, size_t out_n)
+{
+    malstrink_no_overlap("malstrink_build", "block", block, block_n, "out", out, out_n);
+    malstrink_no_overlap("malstrink_build", "data", data, data_n, "out", out, out_n);
+    return malstrink_build(p, block, block_n, data, data_n, mac, out, out_n);
+}
+static inline MalstrinkAnswer malstrink_checked_build_body(MalstrinkPacket p, const uint8_t *block, size_t block_n, const uint8_t *data,
+                                                           size_t data_n, uint8_t *out, size_t out_n)
+{
+    malstrink_no_overlap("malstrink_build_body", "block", block, block_n, "out", out, out_n);
+    malstrink_no_overlap("malstrink_build_body", "data", data, data_n, "out", out, out_n);
+    return malstrink_build_body(p, block, block_n, data, data_n, out, out_n);
+}
+static inline MalstrinkAnswer malstrink_checked_pad_mac(const uint8_t *data, size_t data_n, uint8_t *out, size_t out_n)
+{
+    malstrink_no_overlap("malstrink_pad_mac", "data", data, data_n, "out", out, out_n);
+    return malstrink_pad_mac(data, data_n, out, out_n);
+}
+static inline MalstrinkAnswer malstrink_checked_pad_data(const uint8_t *data, size_t data_n, uint8_t *out, size_t out_n)
+{
+    malstrink_no_overlap("malstrink_pad_data", "data", data, data_n, "out", out, out_n);
+    return malstrink_pad_data(data, data_n, out, out_n);
+}
+static inline MalstrinkCiphered malstrink_checked_encrypt_data(MalstrinkBytes16 s_enc, MalstrinkBytes16 iv, const uint8_t *data, size_t data_n,
+                                                               uint8_t *out, size_t out_n)
+{
+    malstrink_no_overlap("malstrink_encrypt_data", "data", data, data_n, "out", out, out_n);
+    return malstrink_encrypt_data(s_enc, iv, data, data_n, out, out_n);
+}
+static inline MalstrinkCiphered malstrink_checked_decrypt_data(MalstrinkBytes16 s_enc, MalstrinkBytes16 iv, const uint8_t *data, size_t data_n,
+                                                               uint8_t *out, size_t out_n)
+{
+    malstrink_no_overlap("malstrink_decrypt_data", "data", data, data_n, "out", out, out_n);
+    return malstrink_decrypt_data(s_enc, iv, data, data_n, out, out_n);
+}
+static inline MalstrinkCiphered malstrink_checked_session_seal_data(MalstrinkSession s, const uint8_t *data, size_t data_n, uint8_t *out,
+                                                                    size_t out_n)
+{
+    malstrink_no_overlap("malstrink_session_seal_data", "data", data, data_n, "out", out, out_n);
+    return malstrink_session_seal_data(s, data, data_n, out, out_n);
+}
+static inline MalstrinkCiphered malstrink_checked_session_open_data(MalstrinkSession s, const uint8_t *data, size_t data_n, uint8_t *out,
+                                                                    size_t out_n)
+{
+    malstrink_no_overlap("malstrink_session_open_data", "data", data, data_n, "out", out, out_n);
+    return malstrink_session_open_data(s, data, data_n, out, out_n);
+}
+static inline MalstrinkSealed malstrink_checked_seal(MalstrinkSession s, MalstrinkToSeal p, const uint8_t *data, size_t data_n, uint8_t *out,
+                                                     size_t out_n)
+{
+    malstrink_no_overlap("malstrink_seal", "data", data, data_n, "out", out, out_n);
+    return malstrink_seal(s, p, data, data_n, out, out_n);
+}
+static inline MalstrinkUnsealed malstrink_checked_unseal(MalstrinkSession s, const uint8_t *frame, size_t frame_n, uint8_t *work, size_t work_n)
+{
+    malstrink_no_overlap("malstrink_unseal", "frame", frame, frame_n, "work", work, work_n);
+    return malstrink_unseal(s, frame, frame_n, work, work_n);
+}
+#define malstrink_build malstrink_checked_build
+#define malstrink_build_body malstrink_checked_build_body
+#define malstrink_pad_mac malstrink_checked_pad_mac
+#define malstrink_pad_data malstrink_checked_pad_data
+#define malstrink_encrypt_data malstrink_checked_encrypt_data
+#define malstrink_decrypt_data malstrink_checked_decrypt_data
+#define malstrink_session_seal_data malstrink_checked_session_seal_data
+#define malstrink_session_open_data malstrink_checked_session_open_data
+#define malstrink_seal malstrink_checked_seal
+#define malstrink_unseal malstrink_checked_unseal
+/* what the forms on a pointer look at */
+#define MALSTRINK_OUTSIDE(call, s, one, p, n) malstrink_no_overlap(call, "the session", s, sizeof *(s), one, p, n)
+#define MALSTRINK_LENT(call, s, one, p, n, other, q, m) \
+    (MALSTRINK_OUTSIDE(call, s, one, p, n), MALSTRINK_OUTSIDE(call, s, other, q, m), malstrink_no_overlap(call, one, p, n, other, q, m))
+#else
+#define MALSTRINK_OUTSIDE(call, s, one, p, n) ((void)0)
+#define MALSTRINK_LENT(call, s, one, p, n, other, q, m) ((void)0)
+#endif
+
+/* ---- clearing */
+/* zeroes n bytes, by stores that a compiler keeps; for a key of your own that is no longer needed */
+static inline void malstrink_clear(void *p, size_t n)
+{
+    volatile uint8_t *at = (volatile uint8_t *)p;
+    while (n--) *at++ = 0;
+}
+
+/* How much stack a form below takes at most: measured by include/stack, rounded up (docs/PERFORMANCE.md has the table, call by call). */
+#define MALSTRINK_STACK 2560
+
+/* A session crosses by value, so a call leaves copies of it on the stack. Each form below makes its call in a function of its own, that
+   is not inlined, and zeroes the stack that this function had. */
+#define MALSTRINK_ALONE static __attribute__((noinline, unused))
+MALSTRINK_ALONE void malstrink_clear_stack(void)
+{
+    uint64_t deep[MALSTRINK_STACK / 8];
+    volatile uint64_t *at = deep;
+    size_t i;
+    for (i = 0; i < MALSTRINK_STACK / 8; i++) at[i] = 0;
+}
+/* the empty asm keeps the compiler from jumping to malstrink_clear_stack when the caller's own frame is gone */
+#define MALSTRINK_CLEARED() do { malstrink_clear_stack(); __asm__ __volatile__("" ::: "memory"); } while (0)
+
+static inline MalstrinkBytes16 malstrink_bytes16(const uint8_t bytes[16])
+{
+    MalstrinkBytes16 b;
+    size_t i;
+    for (i = 0; i < 16; i++) b.bytes[i] = bytes[i];
+    return b;
+}
+static inline MalstrinkBytes8 malstrink_bytes8(const uint8_t bytes[8])
+{
+    MalstrinkBytes8 b;
+    size_t i;
+    for (i = 0; i < 8; i++) b.bytes[i] = bytes[i];
+    return b;
+}
+/* a block that was answered goes out, unless it was refused */
+static inline MalstrinkAnswer malstrink_given16(MalstrinkAnswer a, const uint8_t block[16], uint8_t out[16])
+{
+    size_t i;
+    if (a.refusal == 0) for (i = 0; i < 16; i++) out[i] = block[i];
+    return a;
+}
+
+/* ---- sessions, by pointer: the proved call of the same name without _in, on the session where it stands. The session after the call is
+   stored back, also beside a refusal, and the stack that the call had is zeroed, MALSTRINK_STACK bytes of it: the header's own copies
+   of the session and what the archive's code laid down there, its key schedules among it. What is not cleared: the processor's registers
+   and wherever a system has saved them (a signal, a switch of tasks), your own arrays that a key came from (malstrink_clear), and s itself
+   until malstrink_session_wipe_in.
+   An array that is written (client_cryptogram, ..) lies outside the session, and is written only where the answer's refusal is 0. */
+
+MALSTRINK_ALONE void malstrink_alone_new(MalstrinkSession *s, const uint8_t scbk[16])
+{
+    *s = malstrink_session_new(malstrink_bytes16(scbk));
+}
+static inline void malstrink_session_new_in(MalstrinkSession *s, const uint8_t scbk[16])
+{
+    malstrink_alone_new(s, scbk);
+    MALSTRINK_CLEARED();
+}
+
+MALSTRINK_ALONE void malstrink_alone_new_reader(MalstrinkSession *s, const uint8_t scbk[16], const uint8_t cuid[8])
+{
+    *s = malstrink_session_new_reader(malstrink_bytes16(scbk), malstrink_bytes8(cuid));
+}
+static inline void malstrink_session_new_reader_in(MalstrinkSession *s, const uint8_t scbk[16], const uint8_t cuid[8])
+{
+    malstrink_alone_new_reader(s, scbk, cuid);
+    MALSTRINK_CLEARED();
+}
+
+/* zeroes all of *s but end, as malstrink_session_wipe answers it, by stores that a compiler keeps */
+static inline void malstrink_session_wipe_in(MalstrinkSession *s)
+{
+    const uint8_t end = s->end;
+    malstrink_clear(s, sizeof *s);
+    *(volatile uint8_t *)&s->end = end;
+}
+
+/* the controller's end */
+MALSTRINK_ALONE MalstrinkAnswer malstrink_alone_challenge(MalstrinkSession *s, const uint8_t rnd_a[8])
+{
+    MalstrinkStepped r = malstrink_session_challenge(*s, malstrink_bytes8(rnd_a));
+    *s = r.session;
+    return r.answer;
+}
+static inline MalstrinkAnswer malstrink_session_challenge_in(MalstrinkSession *s, const uint8_t rnd_a[8])
+{
+    MalstrinkAnswer a = malstrink_alone_challenge(s, rnd_a);
+    MALSTRINK_CLEARED();
+    return a;
+}
+
+MALSTRINK_ALONE MalstrinkAnswer malstrink_alone_receive_ccrypt(MalstrinkSession *s, const uint8_t cuid[8], const uint8_t rnd_b[8],
+                                                               const uint8_t client_cryptogram[16])
+{
+    MalstrinkStepped r =
+        malstrink_session_receive_ccrypt(*s, malstrink_bytes8(cuid), malstrink_bytes8(rnd_b), malstrink_bytes16(client_cryptogram));
+    *s = r.session;
+    return r.answer;
+}
+static inline MalstrinkAnswer malstrink_session_receive_ccrypt_in(MalstrinkSession *s, const uint8_t cuid[8], const uint8_t rnd_b[8],
+                                                                  const uint8_t client_cryptogram[16])
+{
+    MalstrinkAnswer a = malstrink_alone_receive_ccrypt(s, cuid, rnd_b, client_cryptogram);
+    MALSTRINK_CLEARED();
+    return a;
+}
+
+MALSTRINK_ALONE MalstrinkAnswer malstrink_alone_server_cryptogram(const MalstrinkSession *s, uint8_t server_cryptogram[16])
+{
+    MalstrinkBlockAnswer r = malstrink_session_server_cryptogram(*s);
+    return malstrink_given16(r.answer, r.block, server_cryptogram);
+}
+static inline MalstrinkAnswer malstrink_session_server_cryptogram_in(const MalstrinkSession *s, uint8_t server_cryptogram[16])
+{
+    MalstrinkAnswer a;
+    MALSTRINK_OUTSIDE("malstrink_session_server_cryptogram_in", s, "server_cryptogram", server_cryptogram, 16);
+    a = malstrink_alone_server_cryptogram(s, server_cryptogram);
+    MALSTRINK_CLEARED();
+    return a;
+}
+
+MALSTRINK_ALONE MalstrinkAnswer malstrink_alone_initial_rmac(const MalstrinkSession *s, uint8_t rmac_i[16])
+{
+    MalstrinkBlockAnswer r = malstrink_session_initial_rmac(*s);
+    return malstrink_given16(r.answer, r.block, rmac_i);
+}
+static inline MalstrinkAnswer malstrink_session_initial_rmac_in(const MalstrinkSession *s, uint8_t rmac_i[16])
+{
+    MalstrinkAnswer a;
+    MALSTRINK_OUTSIDE("malstrink_session_initial_rmac_in", s, "rmac_i", rmac_i, 16);
+    a = malstrink_alone_initial_rmac(s, rmac_i);
+    MALSTRINK_CLEARED();
+    return a;
+}
+
+MALSTRINK_ALONE MalstrinkAnswer malstrink_alone_confirm_rmac_i(MalstrinkSession *s, const uint8_t rmac_i[16])
+{
+    MalstrinkStepped r = malstrink_session_confirm_rmac_i(*s, malstrink_bytes16(rmac_i));
+    *s = r.session;
+    return r.answer;
+}
+static inline MalstrinkAnswer malstrink_session_confirm_rmac_i_in(MalstrinkSession *s, const uint8_t rmac_i[16])
+{
+    MalstrinkAnswer a = malstrink_alone_confirm_rmac_i(s, rmac_i);
+    MALSTRINK_CLEARED();
+    return a;
+}
+
+/* the reader's end */
+MALSTRINK_ALONE MalstrinkAnswer malstrink_alone_receive_challenge(MalstrinkSession *s, const uint8_t rnd_a[8], const uint8_t rnd_b[8],
+                                                                  uint8_t client_cryptogram[16])
+{
+    MalstrinkSteppedBlock r = malstrink_session_receive_challenge(*s, malstrink_bytes8(rnd_a), malstrink_bytes8(rnd_b));
+    *s = r.session;
+    return malstrink_given16(r.answer, r.block, client_cryptogram);
+}
+static inline MalstrinkAnswer malstrink_session_receive_challenge_in(MalstrinkSession *s, const uint8_t rnd_a[8], const uint8_t rnd_b[8],
+                                                                     uint8_t client_cryptogram[16])
+{
+    MalstrinkAnswer a;
+    MALSTRINK_OUTSIDE("malstrink_session_receive_challenge_in", s, "client_cryptogram", client_cryptogram, 16);
+    a = malstrink_alone_receive_challenge(s, rnd_a, rnd_b, client_cryptogram);
+    MALSTRINK_CLEARED();
+    return a;
+}
+
+MALSTRINK_ALONE MalstrinkAnswer malstrink_alone_receive_scrypt(MalstrinkSession *s, const uint8_t server_cryptogram[16], uint8_t rmac_i[16])
+{
+    MalstrinkSteppedBlock r = malstrink_session_receive_scrypt(*s, malstrink_bytes16(server_cryptogram));
+    *s = r.session;
+    return malstrink_given16(r.answer, r.block, rmac_i);
+}
+static inline MalstrinkAnswer malstrink_session_receive_scrypt_in(MalstrinkSession *s, const uint8_t server_cryptogram[16], uint8_t rmac_i[16])
+{
+    MalstrinkAnswer a;
+    MALSTRINK_OUTSIDE("malstrink_session_receive_scrypt_in", s, "rmac_i", rmac_i, 16);
+    a = malstrink_alone_receive_scrypt(s, server_cryptogram, rmac_i);
+    MALSTRINK_CLEARED();
+    return a;
+}
+
+/* either end, once it is Secure */
+MALSTRINK_ALONE MalstrinkAnswer malstrink_alone_mac(MalstrinkSession *s, const uint8_t *bytes, size_t n, uint8_t mac[16])
+{
+    MalstrinkSteppedBlock r = malstrink_session_mac(*s, bytes, n);
+    *s = r.session;
+    return malstrink_given16(r.answer, r.block, mac);
+}
+static inline MalstrinkAnswer malstrink_session_mac_in(MalstrinkSession *s, const uint8_t *bytes, size_t n, uint8_t mac[16])
+{
+    MalstrinkAnswer a;
+    MALSTRINK_OUTSIDE("malstrink_session_mac_in", s, "mac", mac, 16);
+    a = malstrink_alone_mac(s, bytes, n, mac);
+    MALSTRINK_CLEARED();
+    return a;
+}
+
+MALSTRINK_ALONE MalstrinkAnswer malstrink_alone_verify(MalstrinkSession *s, const uint8_t *bytes, size_t n, const uint8_t wire_mac[4])
+{
+    MalstrinkBytes4 mac = { { wire_mac[0], wire_mac[1], wire_mac[2], wire_mac[3] } };
+    MalstrinkStepped r = malstrink_session_verify(*s, bytes, n, mac);
+    *s = r.session;
+    return r.answer;
+}
+static inline MalstrinkAnswer malstrink_session_verify_in(MalstrinkSession *s, const uint8_t *bytes, size_t n, const uint8_t wire_mac[4])
+{
+    MalstrinkAnswer a = malstrink_alone_verify(s, bytes, n, wire_mac);
+    MALSTRINK_CLEARED();
+    return a;
+}
+
+MALSTRINK_ALONE MalstrinkAnswer malstrink_alone_keys(const MalstrinkSession *s, MalstrinkKeys *keys)
+{
+    MalstrinkKeysAnswer r = malstrink_session_keys(*s);
+    if (r.answer.refusal == 0) *keys = r.keys;
+    return r.answer;
+}
+static inline MalstrinkAnswer malstrink_session_keys_in(const MalstrinkSession *s, MalstrinkKeys *keys)
+{
+    MalstrinkAnswer a;
+    MALSTRINK_OUTSIDE("malstrink_session_keys_in", s, "keys", keys, sizeof *keys);
+    a = malstrink_alone_keys(s, keys);
+    MALSTRINK_CLEARED();
+    return a;
+}
+
+MALSTRINK_ALONE MalstrinkAnswer malstrink_alone_last_other_mac(const MalstrinkSession *s, uint8_t mac[16])
+{
+    MalstrinkBlockAnswer r = malstrink_session_last_other_mac(*s);
+    return malstrink_given16(r.answer, r.block, mac);
+}
+static inline MalstrinkAnswer malstrink_session_last_other_mac_in(const MalstrinkSession *s, uint8_t mac[16])
+{
+    MalstrinkAnswer a;
+    MALSTRINK_OUTSIDE("malstrink_session_last_other_mac_in", s, "mac", mac, 16);
+    a = malstrink_alone_last_other_mac(s, mac);
+    MALSTRINK_CLEARED();
+    return a;
+}
+
+/* data, out and the session do not overlap */
+MALSTRINK_ALONE MalstrinkCiphered malstrink_alone_seal_data(const MalstrinkSession *s, const uint8_t *data, size_t data_n, uint8_t *out,
+                                                            size_t out_n)
+{
+    return malstrink_session_seal_data(*s, data, data_n, out, out_n);
+}
+static inline MalstrinkCiphered malstrink_session_seal_data_in(const MalstrinkSession *MALSTRINK_RESTRICT s, const uint8_t *MALSTRINK_RESTRICT data,
+                                                               size_t data_n, uint8_t *MALSTRINK_RESTRICT out, size_t out_n)
+{
+    MalstrinkCiphered r;
+    MALSTRINK_LENT("malstrink_session_seal_data_in", s, "data", data, data_n, "out", out, out_n);
+    r = malstrink_alone_seal_data(s, data, data_n, out, out_n);
+    MALSTRINK_CLEARED();
+    return r;
+}
+
+MALSTRINK_ALONE MalstrinkCiphered malstrink_alone_open_data(const MalstrinkSession *s, const uint8_t *data, size_t data_n, uint8_t *out,
+                                                            size_t out_n)
+{
+    return malstrink_session_open_data(*s, data, data_n, out, out_n);
+}
+static inline MalstrinkCiphered malstrink_session_open_data_in(const MalstrinkSession *MALSTRINK_RESTRICT s, const uint8_t *MALSTRINK_RESTRICT data,
+                                                               size_t data_n, uint8_t *MALSTRINK_RESTRICT out, size_t out_n)
+{
+    MalstrinkCiphered r;
+    MALSTRINK_LENT("malstrink_session_open_data_in", s, "data", data, data_n, "out", out, out_n);
+    r = malstrink_alone_open_data(s, data, data_n, out, out_n);
+    MALSTRINK_CLEARED();
+    return r;
+}
+
+/* ---- sealed frames, by pointer. The answer's a: how long the frame in out is. data, out and the session do not overlap */
+MALSTRINK_ALONE MalstrinkCiphered malstrink_alone_seal(MalstrinkSession *s, MalstrinkToSeal p, const uint8_t *data, size_t data_n, uint8_t *out,
+                                                       size_t out_n)
+{
+    MalstrinkCiphered c;
+    MalstrinkSealed r = malstrink_seal(*s, p, data, data_n, out, out_n);
+    *s = r.session;
+    c.answer = r.answer;
+    c.calls = r.calls;
+    return c;
+}
+static inline MalstrinkCiphered malstrink_seal_in(MalstrinkSession *MALSTRINK_RESTRICT s, MalstrinkToSeal p, const uint8_t *MALSTRINK_RESTRICT data,
+                                                  size_t data_n, uint8_t *MALSTRINK_RESTRICT out, size_t out_n)
+{
+    MalstrinkCiphered c;
+    MALSTRINK_LENT("malstrink_seal_in", s, "data", data, data_n, "out", out, out_n);
+    c = malstrink_alone_seal(s, p, data, data_n, out, out_n);
+    MALSTRINK_CLEARED();
+    return c;
+}
+
+/* payload: len bytes, in work or (plain) in frame itself, so good while both are; NULL and len 0 beside a refusal. frame, work and the session do not overlap */
+typedef struct { MalstrinkAnswer answer; const uint8_t *payload; size_t len, calls; } MalstrinkOpened;
+MALSTRINK_ALONE MalstrinkOpened malstrink_alone_unseal(MalstrinkSession *s, const uint8_t *frame, size_t frame_n, uint8_t *work, size_t work_n)
+{
+    MalstrinkOpened o;
+    MalstrinkUnsealed r = malstrink_unseal(*s, frame, frame_n, work, work_n);
+    *s = r.session;
+    o.answer = r.answer;
+    o.payload = r.answer.refusal != 0 ? NULL : r.in_work ? work + r.start : frame + r.start;
+    o.len = r.len;
+    o.calls = r.calls;
+    return o;
+}
+static inline MalstrinkOpened malstrink_unseal_in(MalstrinkSession *MALSTRINK_RESTRICT s, const uint8_t *MALSTRINK_RESTRICT frame, size_t frame_n,
+                                                  uint8_t *MALSTRINK_RESTRICT work, size_t work_n)
+{
+    MalstrinkOpened o;
+    MALSTRINK_LENT("malstrink_unseal_in", s, "frame", frame, frame_n, "work", work, work_n);
+    o = malstrink_alone_unseal(s, frame, frame_n, work, work_n);
+    MALSTRINK_CLEARED();
+    return o;
+}
+
+#ifdef __cplusplus
+}
+#endif
 #endif

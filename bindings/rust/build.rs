@@ -1,4 +1,4 @@
-//! MALSTRINK_LIB_DIR names the directory of libffi.a (`rt staticlib ffi` writes it to target/staticlib). Without it the crate can be
+//! MALSTRINK_LIB_DIR names the directory of libmalstrink.a (include/archive makes target/archive/x86_64). Without it the crate can be
 //! checked but not linked.
 use std::env;
 use std::path::Path;
@@ -11,7 +11,7 @@ fn main() {
     };
     let arch = env::var("CARGO_CFG_TARGET_ARCH").unwrap_or_default();
     assert_eq!(arch, "x86_64", "the archive is for x86-64 only");
-    let archive = Path::new(&dir).join("libffi.a");
+    let archive = Path::new(&dir).join("libmalstrink.a");
     assert!(
         archive.is_file(),
         "MALSTRINK_LIB_DIR: there is no {}",
@@ -19,5 +19,5 @@ fn main() {
     );
     println!("cargo:rerun-if-changed={}", archive.display());
     println!("cargo:rustc-link-search=native={}", dir);
-    println!("cargo:rustc-link-lib=static=ffi");
+    println!("cargo:rustc-link-lib=static=malstrink");
 }

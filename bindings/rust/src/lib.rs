@@ -9,7 +9,7 @@
 //!
 //! # Linking
 //!
-//! The archive is for x86-64. The environment variable `MALSTRINK_LIB_DIR` names the directory of `libffi.a` to the build script. The
+//! The archive is for x86-64. The environment variable `MALSTRINK_LIB_DIR` names the directory of `libmalstrink.a` to the build script. The
 //! archive needs `memcpy` and `memset`, and nothing else.
 //!
 //! # Both ends of a channel
