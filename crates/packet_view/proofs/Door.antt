@@ -1,6 +1,6 @@
 -- The functions with plain parameters that answer a part of the frame that they are lent: one walk for all. Such a function makes the view by `parse`, holds it in a local, and passes it to a thin method.
 --     door k           the function's MIR, with the method's key k. A function's own `(door k)` is this by computation
---     viewClauses P    its contract: the result keeps the promise P. A function's own contract is this, and P is read off it
+--     viewClauses P    its contract: the result keeps the promise P. A function's own contract is this by computation
 --     MethodKeeps P Q  what a method with the promise Q answers of a view of the frame keeps P
 --     door-meets       where `parse` meets its contract and the method that of Q, and the method keeps P, the function meets `viewClauses P`
 -- In a local of a body MIR erases the lifetime of the struct's type, so the view is shown to have the type at `erased`: what the struct owns does not say the lifetime's name.

@@ -1,7 +1,7 @@
 -- The thin methods of a flat `PacketView` that answer a part of its frame: one walk for all. Such a method takes the frame and two numbers out of the struct, calls `part` on them, and returns what that returned.
 --     Number           a field of the struct that is a `usize`: its place, how it is read off a record and off a machine value, and that it fits
 --     thin i j         the method's MIR, with the places of the two fields. A method's own `code.function` is this by computation
---     partClauses P    its contract: the result keeps the promise P. A method's own contract is this, and P is read off it
+--     partClauses P    its contract: the result keeps the promise P. A method's own contract is this by computation
 --     PartKeeps P a l  what `part` answers, at a and l of the frame, keeps P
 --     thin-meets       where `part` meets its contract and keeps P, the method meets `partClauses P`
 -- The struct is Copy: what it owns is had twice, one copy is kept whole for the exit, and of the other what frame owns goes to the callee, beside the lifetime's token, which comes back. What the numbers own is made anew.
