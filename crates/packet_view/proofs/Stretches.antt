@@ -9,5 +9,12 @@ use denote.Ref.{RefT, now}
 use denote.Slice.{sliceVal, slice-vals}
 use Rattle.packet_view.specs.Stretch.{Stretch, stretchOf}
 
+-- what an equation on an answer says of each
+pub same-place : (r : RefT (List ℕ)) {x : Stretch} → stretchOf r ≡ x → r .ptr ≡ x .0
+same-place r e = ap (λ (y : Stretch). y .0) e
+
+pub same-bytes : (r : RefT (List ℕ)) {x : Stretch} → stretchOf r ≡ x → now r ≡ x .1
+same-bytes r e = ap (λ (y : Stretch). y .1) e
+
 pub stretch-settled : (r s : RefT (List ℕ)) → stretchOf r ≡ stretchOf s → (slice-vals r ≡ slice-vals s) × (now r ≡ now s)
-stretch-settled r s e = (ap (λ (x : Stretch). sliceVal (x .0) (length (x .1)) ∷ []) e, ap (λ (x : Stretch). x .1) e)
+stretch-settled r s e = (ap (λ (x : Stretch). sliceVal (x .0) (length (x .1)) ∷ []) e, same-bytes r e)

@@ -7,6 +7,7 @@ use denote.Triple.Spec.{tripleOf}
 use denote.Triple.Table.{entered, cited}
 use Rattle.packet_view.specs.Stretch.{stretchOf}
 use Rattle.packet_view.specs.View.{partSeen, payloadSeen}
+use Rattle.packet_view.proofs.Stretches.{same-place, same-bytes}
 use Rattle.packet_view.proofs.Thin.{MethodPromise}
 use Rattle.packet_view.proofs.Door.{DoorPromise, MethodKeeps, New, Next, door-meets}
 use Rattle.packet_view.proofs.ShownLaws.{payload-shown}
@@ -28,7 +29,7 @@ abbrev Called : MethodPromise
 Called x r = stretchOf r ≡ partSeen (x .0 .frame) (x .0 .«data_at») (x .0 .«data_len»)
 
 keeps : MethodKeeps Promised Called
-keeps s w r e f = let h = f ∙ payload-shown s w e in cc
+keeps s w r e f = let seen = f ∙ payload-shown s w e in let place = same-place r seen in let bytes = same-bytes r seen in cc
 
 pub payload-in-spec : {M : Type 1} → stated.statement M
 unfolding code.routine tablesOf

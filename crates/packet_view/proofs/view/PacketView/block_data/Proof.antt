@@ -7,6 +7,7 @@ use denote.Triple.Spec.{tripleOf}
 use denote.Triple.Table.{entered, cited}
 use Rattle.packet_view.specs.Stretch.{stretchOf}
 use Rattle.packet_view.specs.View.{partSeen}
+use Rattle.packet_view.proofs.Stretches.{same-place, same-bytes}
 use Rattle.packet_view.proofs.Thin.{block-at, block-len, MethodPromise, PartKeeps, PartContract, thin-meets}
 use Rattle.packet_view.proofs.parts.part.Symbol as part-def
 use Rattle.packet_view.proofs.parts.part.Symbol.{name as #part}
@@ -20,7 +21,7 @@ abbrev Promised : MethodPromise
 Promised x r = stretchOf r ≡ partSeen (x .0 .frame) (x .0 .«block_at») (x .0 .«block_len»)
 
 keeps : PartKeeps Promised block-at block-len
-keeps d r e = cc
+keeps d r e = let place = same-place r e in let bytes = same-bytes r e in cc
 
 pub block-data-spec : {M : Type 1} → stated.statement M
 unfolding code.routine tablesOf
