@@ -1,5 +1,5 @@
 mod Rounds
-pub mod RoundKey
+mod RoundKey
 mod Steps
 mod Halves
 mod KeyHalves

@@ -1,7 +1,7 @@
 -- Read, then built: what the view of an accepted frame shows builds its first LEN bytes again (docs/RULES.md, 3.6 and 12.2).
 -- Assumes nothing.
 use mathlib.Core.Path.{_≡_, refl, sym, ap, ap₂, _∙_}
-use mathlib.Core.Bool.{cond}
+use mathlib.Core.Bool.{Bool, cond}
 use mathlib.Core.List.{List, [], _++_}
 use Prim.Native.Nat.{ℕ, _≤_}
 use native.Mathlib.Omega.{arith}
@@ -22,7 +22,7 @@ use Rattle.packet_head.specs.Header.{Control, control}
 use Rattle.packet_head.proofs.Types.{type-range}
 use Rattle.packet_parse.specs.Frame.{Fields, BlockAt, BlockAt.noBlock, BlockAt.blockAt, MacAt, MacAt.noMac, MacAt.macFrom, typeIn, parseOf}
 use Rattle.packet_parse.proofs.Within.{accepted-inside}
-use Rattle.packet_parse.proofs.MacDue.{accepted-due}
+use Rattle.packet_parse.proofs.MacDue.{TypeKnown, accepted-due}
 use Rattle.packet_build.specs.Build.{Parts, FrameBlock, FrameBlock.scb, scbGiven, macBytes, partsGiven, buildOf}
 use Rattle.packet_build.specs.declared.codec.BuildBlock.{BuildBlock}
 use Rattle.packet_build.specs.declared.codec.GivenMac.{GivenMac}
@@ -41,12 +41,7 @@ unfolding placesOf
 read-as (given F) h = (F, refl)
 read-as (refused n vs) h = absurd (given-refused (sym h))
 
--- the type of a block that stands there is one of the eight, as `accepted-due` has it
-abbrev EightTypes : BlockAt → Type 0
-EightTypes noBlock = Unit {0}
-EightTypes (blockAt ty start len) = (0x11 ≤ ty) × (ty ≤ 0x18)
-
-same-block : (B : BlockAt) (f : List ℕ) (b : BuildBlock) (l : List ℕ) → EightTypes B → typeIn B ≡ typeAsked b → blockDataIn (frameBlockFrom B f) ≡ blockDataAsked b l
+same-block : (B : BlockAt) (f : List ℕ) (b : BuildBlock) (l : List ℕ) → TypeKnown B → typeIn B ≡ typeAsked b → blockDataIn (frameBlockFrom B f) ≡ blockDataAsked b l
     → frameBlockFrom B f ≡ scbGiven b l
 same-block noBlock f BuildBlock.Absent l k t d = refl
 same-block noBlock f (BuildBlock.Of ty) l k t d = absurd (omega (arith, type-range ty .0))
@@ -84,7 +79,7 @@ kind-asked : (k : BlockKind) → kindOf k ≡ typeAsked (blockShown k)
 kind-asked BlockKind.Absent = refl
 kind-asked (BlockKind.Present ty) = refl
 
-no-block-data : (B : BlockAt) (s : List ℕ) → EightTypes B → typeIn B ≡ 0 → take (blockIn B .1) (drop (blockIn B .0) s) ≡ []
+no-block-data : (B : BlockAt) (s : List ℕ) → TypeKnown B → typeIn B ≡ 0 → take (blockIn B .1) (drop (blockIn B .0) s) ≡ []
 no-block-data noBlock s k e = refl
 no-block-data (blockAt ty start len) s k e = absurd (omega arith)
 
@@ -93,8 +88,10 @@ shown-data BlockKind.Absent l h = h refl
 shown-data (BlockKind.Present ty) l h = refl
 
 mac-of-length : (m : MacAt) (l : List ℕ) → length l ≡ macIn m .1 → l ≡ macBytes (macShown l)
-mac-of-length noMac l e = let z : [] ≡ l = nothing l e in ap (λ (x : List ℕ). x) (sym z) ∙ ap (λ (x : List ℕ). macBytes (macShown x)) z
-mac-of-length (macFrom at) l e = rw (eq-eqb (length l) 4 e) (sym (all-listed l 4 e))
+mac-of-length noMac l e = let z : [] ≡ l = nothing l e in sym z ∙ ap (λ (x : List ℕ). macBytes (macShown x)) z
+mac-of-length (macFrom at) l e =
+    sym (all-listed l 4 e)
+    ∙ ap (λ (t : Bool). macBytes (cond t (GivenMac.Is (getD l 0 0) (getD l 1 0) (getD l 2 0) (getD l 3 0)) GivenMac.Absent)) (sym (eq-eqb (length l) 4 e))
 
 -- v is the view of s that `PacketView::parse` gives, and it tells no refusal
 module _ (s : RefT (List ℕ)) (v : PacketView) (e : viewed v ≡ (s, shownOf (now s))) (done : v .outcome ≡ Outcome.Done) where

@@ -64,9 +64,19 @@ parse-whatever-follows s rest h l =
     let e : length (s ++ rest) ≡ length s + length rest = length-append s rest in
     sym (same-first-bytes s (s ++ rest) h (omega arith) l (omega arith) (sym (take-append-le 5 s rest h)) (sym (take-append-le (lenOf s) s rest l)))
 
--- An accepted frame is its first LEN bytes: alone they are accepted as the same, and so they are before any other bytes.
+-- An accepted frame is its first LEN bytes: alone they are accepted as the same frame, and so they are with any bytes after them.
 module _ (s : List ℕ) (F : Fields) (e : parseOf s ≡ given F) where
+  abbrev len-said : F .len ≡ lenOf s
+  len-said = accepted-told s F e .len
+
   pub accepted-alone : parseOf (take (F .len) s) ≡ given F
   accepted-alone =
       let i = accepted-inside s F e in
-      sym (parse-of-front s (F .len) (omega (arith, i .least)) (omega (arith, accepted-told s F e .len)) (i .most)) ∙ e
+      sym (parse-of-front s (F .len) (omega (arith, i .least)) (omega (arith, len-said)) (i .most)) ∙ e
+
+  pub accepted-before : (rest : List ℕ) → parseOf (take (F .len) s ++ rest) ≡ given F
+  accepted-before rest =
+      let i = accepted-inside s F e in
+      let n : length (take (F .len) s) ≡ F .len = length-take-le (F .len) s (i .most) in
+      let k : F .len ≡ lenOf (take (F .len) s) = accepted-told (take (F .len) s) F accepted-alone .len in
+      parse-whatever-follows (take (F .len) s) rest (omega (arith, i .least)) (omega arith) ∙ accepted-alone

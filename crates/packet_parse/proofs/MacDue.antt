@@ -17,7 +17,8 @@ abbrev pub there : MacAt → Bool
 there noMac = false
 there (macFrom at) = true
 
-abbrev TypeKnown : BlockAt → Type 0
+-- the type of a block that stands there is one of the eight
+abbrev pub TypeKnown : BlockAt → Type 0
 TypeKnown noBlock = Unit {0}
 TypeKnown (blockAt ty start len) = (0x11 ≤ ty) × (ty ≤ 0x18)
 
