@@ -25,6 +25,9 @@ impl Address {
     /// The address that every device takes.
     pub const BROADCAST: Address = Address(0x7F);
 
+    /// The bit that is set in what a reader sends.
+    pub const REPLY_FLAG: u8 = 0x80;
+
     /// Any byte, as a frame has it.
     pub const fn from_raw(byte: u8) -> Address {
         Address(byte)
@@ -45,6 +48,21 @@ impl Address {
     /// The whole byte, flag included.
     pub const fn as_byte(self) -> u8 {
         self.0
+    }
+
+    /// The device's address: the byte without the reply flag.
+    pub const fn pd_addr(self) -> u8 {
+        self.0 & !Address::REPLY_FLAG
+    }
+
+    /// Whether the reply flag is set.
+    pub const fn is_reply(self) -> bool {
+        self.0 & Address::REPLY_FLAG != 0
+    }
+
+    /// Whether the device's address is the one that every device takes. The reply flag does not matter.
+    pub const fn is_broadcast(self) -> bool {
+        self.pd_addr() == Address::BROADCAST.0
     }
 }
 
@@ -87,6 +105,17 @@ pub struct ControlByte {
 }
 
 impl ControlByte {
+    /// The bit that says that the trailer is a CRC.
+    pub const USE_CRC: u8 = 0x04;
+
+    /// The bit that says that a block follows.
+    pub const HAS_SCB: u8 = 0x08;
+
+    /// From its parts.
+    pub const fn new(sqn: Sqn, crc: bool, block: bool) -> ControlByte {
+        ControlByte { sqn, crc, block }
+    }
+
     /// Above 0F hex: `BadControlByte`.
     pub fn decode(byte: u8) -> Result<ControlByte, Refusal> {
         let c = unsafe { raw::malstrink_control_decode(byte) };
@@ -104,6 +133,16 @@ impl ControlByte {
             Ok(byte) => byte as u8,
             Err(_) => unreachable!("a Sqn is at most 3"),
         }
+    }
+
+    /// Whether the trailer is a CRC.
+    pub const fn use_crc(self) -> bool {
+        self.crc
+    }
+
+    /// Whether a block follows.
+    pub const fn has_scb(self) -> bool {
+        self.block
     }
 }
 
@@ -135,6 +174,21 @@ impl ScsType {
     /// The byte.
     pub const fn as_byte(self) -> u8 {
         self as u8
+    }
+
+    /// Whether four bytes of MAC stand before the trailer: 15 to 18 hex.
+    pub const fn has_mac(self) -> bool {
+        0x15 <= self.as_byte()
+    }
+
+    /// Whether the frame's data is encrypted: 17 and 18 hex.
+    pub const fn is_encrypted(self) -> bool {
+        0x17 <= self.as_byte()
+    }
+
+    /// Whether it is one of the handshake's: 11 to 14 hex.
+    pub const fn is_handshake(self) -> bool {
+        self.as_byte() <= 0x14
     }
 
     fn of(byte: u8) -> Option<ScsType> {
@@ -174,6 +228,11 @@ impl<'a> Block<'a> {
             }),
             None => unreachable!("the archive has no block type {}", b.ty),
         }
+    }
+
+    /// Its length in a frame, its own length byte and its type counted.
+    pub const fn wire_len(&self) -> usize {
+        self.data.len() + 2
     }
 }
 
@@ -227,6 +286,13 @@ pub enum Trailer {
     Checksum(u8),
     /// Two bytes.
     Crc(u16),
+}
+
+impl Trailer {
+    /// Whether it is a CRC.
+    pub const fn is_crc(self) -> bool {
+        matches!(self, Trailer::Crc(_))
+    }
 }
 
 /// A frame that was read. Its slices are parts of the bytes that it was read from.

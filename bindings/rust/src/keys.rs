@@ -2,6 +2,7 @@
 use crate::raw;
 use crate::wipe::wipe;
 use core::fmt;
+use core::ptr::read_volatile;
 
 pub(crate) fn sixteen(bytes: &[u8; 16]) -> raw::Bytes16 {
     raw::Bytes16 { bytes: *bytes }
@@ -21,8 +22,23 @@ pub fn aes_decrypt(key: &[u8; 16], block: &[u8; 16]) -> [u8; 16] {
     unsafe { raw::malstrink_aes_decrypt(sixteen(key), sixteen(block)) }.bytes
 }
 
-/// The session keys. They are wiped when dropped.
-#[derive(Clone, PartialEq, Eq)]
+/// Whether two slices are equal, for what must match and is secret. Every byte is looked at: where they differ does not show in the time,
+/// only whether their lengths do.
+///
+/// It is the loop of `same` in the repository's crate `secure_keys`, which the archive uses and does not hand out.
+pub fn same(a: &[u8], b: &[u8]) -> bool {
+    if a.len() != b.len() {
+        return false;
+    }
+    let differences = a.iter().zip(b).fold(0, |d, (x, y)| d | (x ^ y));
+    // A compiler that sees what is asked of the differences could stop at the first. It does not see through a volatile read, before
+    // which all of them have to be there.
+    let all = unsafe { read_volatile(&differences) };
+    all == 0
+}
+
+/// The session keys. They are wiped when dropped, and compared by [`same`].
+#[derive(Clone)]
 pub struct SessionKeys {
     /// S-ENC: enciphers data.
     pub s_enc: [u8; 16],
@@ -49,6 +65,15 @@ impl SessionKeys {
         keys
     }
 }
+
+/// All three keys are looked at, whichever differs.
+impl PartialEq for SessionKeys {
+    fn eq(&self, other: &SessionKeys) -> bool {
+        same(&self.s_enc, &other.s_enc) & same(&self.s_mac1, &other.s_mac1) & same(&self.s_mac2, &other.s_mac2)
+    }
+}
+
+impl Eq for SessionKeys {}
 
 impl Drop for SessionKeys {
     fn drop(&mut self) {

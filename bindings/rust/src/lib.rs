@@ -9,8 +9,13 @@
 //!
 //! # Linking
 //!
-//! The archive is for x86-64. The environment variable `MALSTRINK_LIB_DIR` names the directory of `libmalstrink.a` to the build script. The
-//! archive needs `memcpy` and `memset`, and nothing else.
+//! The archive is for x86-64 or aarch64, and needs `memcpy` and `memset` and nothing else. The build script looks for it in the
+//! repository's `target/archive`, or in the directory that the environment variable `MALSTRINK_LIB_DIR` names; where it is not, it says how it is
+//! made, and the build fails. `MALSTRINK_LIB_DIR=none` links nothing, which is enough for `cargo check`, `cargo doc` and `cargo clippy`.
+//!
+//! # Features
+//!
+//! `std`, which is off: a [`Refusal`] is a `std::error::Error`. Nothing else changes.
 //!
 //! # Both ends of a channel
 //!
@@ -46,6 +51,9 @@
 #![no_std]
 #![warn(missing_docs)]
 
+#[cfg(feature = "std")]
+extern crate std;
+
 mod cipher;
 mod frame;
 mod keys;
@@ -62,7 +70,8 @@ pub use frame::{
     Trailer,
 };
 pub use keys::{
-    aes_decrypt, aes_encrypt, client_cryptogram, diversify_scbk_legacy, initial_rmac, server_cryptogram, SessionKeys,
+    aes_decrypt, aes_encrypt, client_cryptogram, diversify_scbk_legacy, initial_rmac, same, server_cryptogram,
+    SessionKeys,
 };
 pub use refusal::Refusal;
 pub use session::{payload, Direction, End, Message, Place, Session, State};

@@ -1,9 +1,23 @@
 //! Why a call refuses (docs/RULES.md, 1.2).
 use crate::raw;
+use crate::ControlByte;
 use core::fmt;
 
 /// Why a call refuses, with what it carries. The cases stand in the order of their numbers, 1 to 18.
+///
+/// As text it says what is wrong. Bytes and CRCs are hexadecimal there, without a mark, and counts are decimal, as in docs/RULES.md.
+///
+/// ```
+/// use malstrink::{parse, Address};
+///
+/// let wrong = parse(&[0x53, 0x05, 0x08, 0x00, 0x04, 0x60, 0xBC, 0x88]).unwrap_err();
+/// assert_eq!(wrong.to_string(), "the CRC is 88BC and should be 89BC");
+/// assert_eq!(Address::pd(0x90).unwrap_err().to_string(), "address 90 is above 7F");
+/// ```
+///
+/// With the feature `std` it is a `std::error::Error`. A case may be added, so a `match` needs an arm for the rest.
 #[derive(Clone, Copy, Debug, PartialEq, Eq, Hash)]
+#[non_exhaustive]
 pub enum Refusal {
     /// 1: too few bytes are at hand, or a place runs outside its slice.
     Truncated {
@@ -102,29 +116,39 @@ impl Refusal {
 impl fmt::Display for Refusal {
     fn fmt(&self, f: &mut fmt::Formatter<'_>) -> fmt::Result {
         match *self {
-            Refusal::Truncated { have, need } => write!(f, "too short: {have} bytes, {need} needed"),
-            Refusal::BadSom(b) => write!(f, "first byte {b:02X}"),
-            Refusal::BadControlByte(b) => write!(f, "control byte {b:02X}"),
-            Refusal::BadLength { declared, .. } => {
-                write!(f, "a length of {declared} leaves no room for the frame's parts")
+            Refusal::Truncated { have, need } => write!(f, "{have} bytes are there and {need} are needed"),
+            Refusal::BadSom(b) => write!(f, "the first byte is {b:02X} and not 53"),
+            Refusal::BadControlByte(b) if b > 0x0F => write!(f, "control byte {b:02X} is above 0F"),
+            // in building, where the byte is one that was put together from a number and two flags
+            Refusal::BadControlByte(b) if b & ControlByte::HAS_SCB != 0 => {
+                write!(f, "control byte {b:02X} says that a block follows, and there is none")
             }
-            Refusal::BadSecurityBlockLength(b) => write!(f, "length of a block of type {b:02X}"),
-            Refusal::BadSecurityBlock(b) => write!(f, "block type {b:02X}"),
-            Refusal::BadCrc { got, want } => write!(f, "CRC {got:04X}, not {want:04X}"),
-            Refusal::BadChecksum { got, want } => write!(f, "checksum {got:02X}, not {want:02X}"),
-            Refusal::BadAddress(b) => write!(f, "address {b:02X}"),
-            Refusal::BadSqn(n) => write!(f, "sequence number {n}"),
-            Refusal::BadMac => f.write_str("a MAC is missing, or not due"),
-            Refusal::BufferOverflow { need, .. } => write!(f, "a frame of {need} bytes"),
-            Refusal::NotSecure => f.write_str("not a sealed frame"),
-            Refusal::BadPadding => f.write_str("wrong padding"),
-            Refusal::BadCryptogram => f.write_str("wrong cryptogram or MAC"),
-            Refusal::WrongState => f.write_str("not in this state or at this end"),
-            Refusal::BlockTooLong(n) => write!(f, "block data of {n} bytes"),
-            Refusal::NoRoom { need, have } => write!(f, "a buffer of {have} bytes, {need} needed"),
+            Refusal::BadControlByte(b) => {
+                write!(f, "control byte {b:02X} says that no block follows, and there is one")
+            }
+            Refusal::BadLength { declared, .. } => {
+                write!(f, "a length of {declared} leaves no room for what the frame must hold")
+            }
+            Refusal::BadSecurityBlockLength(b) => write!(f, "the length of a block of type {b:02X} is below 2"),
+            Refusal::BadSecurityBlock(b) => write!(f, "block type {b:02X} is not one of 11 to 18"),
+            Refusal::BadCrc { got, want } => write!(f, "the CRC is {got:04X} and should be {want:04X}"),
+            Refusal::BadChecksum { got, want } => write!(f, "the checksum is {got:02X} and should be {want:02X}"),
+            Refusal::BadAddress(b) => write!(f, "address {b:02X} is above 7F"),
+            Refusal::BadSqn(n) => write!(f, "sequence number {n} is above 3"),
+            Refusal::BadMac => f.write_str("a MAC is due and missing, or given and not due"),
+            Refusal::BufferOverflow { need, have } => write!(f, "a frame of {need} bytes is longer than {have}"),
+            Refusal::NotSecure => f.write_str("the frame is not sealed: it has no block, or one of type 11 to 14"),
+            Refusal::BadPadding => f.write_str("encrypted data has a wrong length or wrong padding"),
+            Refusal::BadCryptogram => f.write_str("a cryptogram, a first chain value or a MAC is wrong"),
+            Refusal::WrongState => f.write_str("the call is not for this state or this end of a session"),
+            Refusal::BlockTooLong(n) => write!(f, "block data of {n} bytes is longer than 253"),
+            Refusal::NoRoom { need, have } => write!(f, "the buffer has {have} bytes and {need} are needed"),
         }
     }
 }
+
+#[cfg(feature = "std")]
+impl std::error::Error for Refusal {}
 
 impl raw::Answer {
     /// What was asked for, or the refusal.

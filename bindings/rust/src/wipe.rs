@@ -3,7 +3,11 @@ use core::mem::size_of;
 use core::ptr::write_volatile;
 use core::sync::atomic::{compiler_fence, Ordering};
 
-/// Records of plain numbers, of which all zeros are a value.
+/// Records of plain numbers.
+///
+/// # Safety
+///
+/// All zeros have to be a value of the type, and there has to be nothing to drop in it.
 pub(crate) unsafe trait Plain {}
 unsafe impl Plain for [u8; 16] {}
 unsafe impl Plain for crate::raw::Session {}

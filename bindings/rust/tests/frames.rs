@@ -38,6 +38,46 @@ fn small_kinds() {
     }
 }
 
+/// docs/RULES.md, 2.2 to 2.4, over every byte.
+#[test]
+fn what_small_kinds_tell() {
+    assert_eq!((Address::BROADCAST.as_byte(), Address::REPLY_FLAG), (0x7F, 0x80));
+    for byte in 0..=255 {
+        let a = Address::from_raw(byte);
+        assert_eq!(
+            (a.as_byte(), a.pd_addr(), a.is_reply()),
+            (byte, byte % 128, byte >= 128)
+        );
+        assert_eq!(a.is_broadcast(), byte == 0x7F || byte == 0xFF);
+        if byte < 128 {
+            let (command, reply) = (Address::pd(byte).unwrap(), Address::reply(byte).unwrap());
+            assert_eq!((command.pd_addr(), command.is_reply()), (byte, false));
+            assert_eq!((reply.pd_addr(), reply.is_reply()), (byte, true));
+        }
+        if let Ok(ty) = ScsType::from_byte(byte) {
+            assert_eq!(ty.has_mac(), (0x15..=0x18).contains(&byte));
+            assert_eq!(ty.is_encrypted(), byte == 0x17 || byte == 0x18);
+            assert_eq!(ty.is_handshake(), (0x11..=0x14).contains(&byte));
+        }
+        if let Ok(c) = ControlByte::decode(byte) {
+            assert_eq!(c, ControlByte::new(c.sqn, c.use_crc(), c.has_scb()));
+            let flags = |on: bool, bit: u8| if on { bit } else { 0 };
+            let (crc, block) = (
+                flags(c.use_crc(), ControlByte::USE_CRC),
+                flags(c.has_scb(), ControlByte::HAS_SCB),
+            );
+            assert_eq!(c.sqn.value() + crc + block, byte);
+        }
+    }
+    assert_eq!((ControlByte::USE_CRC, ControlByte::HAS_SCB), (4, 8));
+    let block = |data| Block {
+        ty: ScsType::Scs12,
+        data,
+    };
+    assert_eq!((block(&[]).wire_len(), block(&[7, 8]).wire_len()), (2, 4));
+    assert!(Trailer::Crc(0).is_crc() && !Trailer::Checksum(0).is_crc());
+}
+
 fn truncated<T>(have: usize, need: usize) -> Result<T, Refusal> {
     Err(Refusal::Truncated { have, need })
 }
@@ -242,6 +282,24 @@ fn keys() {
         aes_encrypt(&key, &both)
     );
     assert_eq!(format!("{k:?}"), "SessionKeys { .. }");
+}
+
+#[test]
+fn keys_are_the_same_only_in_every_byte() {
+    assert!(same(&[], &[]) && same(b"one key", b"one key"));
+    assert!(!same(b"one", b"one key") && !same(b"one key", b"one kez") && !same(b"one key", b"pne key"));
+    let k = SessionKeys::derive(&[7; 16], b"random.A");
+    assert!(k == k.clone());
+    for i in 0..16 {
+        for bit in 0..8 {
+            let spoilt = |change: fn(&mut SessionKeys) -> &mut [u8; 16]| {
+                let mut other = k.clone();
+                change(&mut other)[i] ^= 1 << bit;
+                other
+            };
+            assert!(k != spoilt(|k| &mut k.s_enc) && k != spoilt(|k| &mut k.s_mac1) && k != spoilt(|k| &mut k.s_mac2));
+        }
+    }
 }
 
 #[test]
