@@ -210,9 +210,18 @@ static void NOINLINE wiped(void)
     malstrink_session_wipe_in(&mine);
     pad[1] = pad[0];
 }
+/* ends with a form, so that the compiler would like to give its own large frame back before the stack is cleared */
+static void NOINLINE ends_with_a_form(void)
+{
+    volatile uint8_t pad[4096];
+    pad[0] = 0;
+    read_state = pad[0];
+    malstrink_session_new_in(&s, test_scbk);
+}
 /* one level deeper, so that what ends the run does not write over the session */
 static void NOINLINE below_unwiped(void) { volatile uint8_t pad[1024]; pad[0] = 0; unwiped(); pad[1] = pad[0]; }
 static void NOINLINE below_wiped(void) { volatile uint8_t pad[1024]; pad[0] = 0; wiped(); pad[1] = pad[0]; }
+static void NOINLINE below_the_end(void) { volatile uint8_t pad[1024]; pad[0] = 0; ends_with_a_form(); pad[1] = pad[0]; }
 
 static void stays_on_the_stack(void)
 {
@@ -220,6 +229,9 @@ static void stays_on_the_stack(void)
     must(secret_left(), "a session that is not wiped was not seen on the stack");
     run_painted(below_wiped, 0x5A);
     must(!secret_left(), "a session that was wiped is on the stack");
+    s = secure_c;
+    run_painted(below_the_end, 0x5A);
+    must(!secret_left(), "new_in at a function's end leaves something on the stack");
     leaves_nothing(below_new, &fresh_c, "new_in leaves something on the stack");
     leaves_nothing(below_new_reader, &fresh_r, "new_reader_in leaves something on the stack");
     leaves_nothing(below_challenge, &fresh_c, "challenge_in leaves something on the stack");

@@ -2,12 +2,12 @@
    call has several ways (encrypted or not, refused or not), each is taken, and the deepest counts. The script `stack` makes a table of it. */
 #include "painted.h"
 
-static uint8_t data[1500], out[2000], plain_c[2000], sealed_c[2000], plain_r[2000], sealed_r[2000], bad[2000];
+static uint8_t data[256], out[512], plain_c[512], sealed_c[512], plain_r[512], sealed_r[512], bad[512];
 static size_t plain_c_n, sealed_c_n, plain_r_n, sealed_r_n;
 static const MalstrinkBytes8 eight = { { 1, 2, 3, 4, 5, 6, 7, 8 } };
 static const MalstrinkBytes4 four = { { 1, 2, 3, 4 } };
 static const MalstrinkMac mac_given = { true, 1, 2, 3, 4 };
-static const size_t lengths[] = { 0, 9, 16, 64, 1400 };
+static const size_t lengths[] = { 0, 9, 208 };
 enum { LENGTHS = sizeof lengths / sizeof *lengths };
 
 /* where answers go, so that no call is left out */
@@ -22,8 +22,9 @@ static const MalstrinkSession *const all[] = { &fresh_c, &fresh_r, &challenged_c
 static const MalstrinkSession *one = &fresh_c;
 static MalstrinkSession held;
 static MalstrinkToSeal asked;
-static const uint8_t *seen;
+static const uint8_t *seen, *ciphered = data;
 static size_t seen_n;
+static uint8_t good[208], good_session[208];
 
 #define CALL(name, field, call) static void NOINLINE call_##name(void) { to.field = call; }
 #define STEP(name, call) static void NOINLINE call_##name(void) { call; }
@@ -55,7 +56,7 @@ CALL(unpad_data, answer, malstrink_unpad_data(data, lengths[at_length]))
 CALL(complement_icv, bytes16, malstrink_complement_icv(client))
 CALL(cbc_mac, chain, malstrink_cbc_mac(data, lengths[at_length], client, server, first))
 CALL(encrypt_data, ciphered, malstrink_encrypt_data(client, server, data, lengths[at_length], out, sizeof out))
-CALL(decrypt_data, ciphered, malstrink_decrypt_data(client, server, data, lengths[at_length], out, sizeof out))
+CALL(decrypt_data, ciphered, malstrink_decrypt_data(client, server, ciphered, lengths[at_length], out, sizeof out))
 CALL(session_new, session, malstrink_session_new(client))
 CALL(session_new_reader, session, malstrink_session_new_reader(client, eight))
 CALL(session_wipe, session, malstrink_session_wipe(*one))
@@ -71,7 +72,7 @@ CALL(session_verify, stepped, malstrink_session_verify(*one, data, lengths[at_le
 CALL(session_keys, keys_answer, malstrink_session_keys(*one))
 CALL(session_last_other_mac, block_answer, malstrink_session_last_other_mac(*one))
 CALL(session_seal_data, ciphered, malstrink_session_seal_data(*one, data, lengths[at_length], out, sizeof out))
-CALL(session_open_data, ciphered, malstrink_session_open_data(*one, data, lengths[at_length], out, sizeof out))
+CALL(session_open_data, ciphered, malstrink_session_open_data(*one, ciphered, lengths[at_length], out, sizeof out))
 CALL(seal, sealed, malstrink_seal(*one, asked, data, lengths[at_length], out, sizeof out))
 CALL(unseal, unsealed, malstrink_unseal(*one, seen, seen_n, out, sizeof out))
 CALL(payload_test, answer, malstrink_payload_test(seen, seen_n, out, sizeof out, true, 5, 5))
@@ -90,7 +91,7 @@ CALL(session_verify_in, answer, malstrink_alone_verify(&held, data, lengths[at_l
 CALL(session_keys_in, answer, malstrink_alone_keys(&held, (MalstrinkKeys *)out))
 CALL(session_last_other_mac_in, answer, malstrink_alone_last_other_mac(&held, out))
 CALL(session_seal_data_in, ciphered, malstrink_alone_seal_data(&held, data, lengths[at_length], out, sizeof out))
-CALL(session_open_data_in, ciphered, malstrink_alone_open_data(&held, data, lengths[at_length], out, sizeof out))
+CALL(session_open_data_in, ciphered, malstrink_alone_open_data(&held, ciphered, lengths[at_length], out, sizeof out))
 CALL(seal_in, ciphered, malstrink_alone_seal(&held, asked, data, lengths[at_length], out, sizeof out))
 CALL(unseal_in, opened, malstrink_alone_unseal(&held, seen, seen_n, out, sizeof out))
 STEP(clear_stack, malstrink_clear_stack())
@@ -132,6 +133,8 @@ static size_t deepest(void (*call)(void))
                 packet.block = k & 1;
                 packet.block_type = k & 1 ? MALSTRINK_BLOCK_15 : MALSTRINK_BLOCK_NONE;
                 packet.crc = k >> 1 & 1;
+                /* well padded for the one, for the other, and for neither */
+                ciphered = k % 3 == 0 ? good : k % 3 == 1 ? good_session : data;
                 seen = frames[k];
                 seen_n = sizes[k];
                 found = most(found, once(call));
@@ -142,8 +145,8 @@ static size_t deepest(void (*call)(void))
 
 static size_t frame_of(bool from_reader, bool encrypt, uint8_t *to_frame, size_t room)
 {
-    const MalstrinkToSeal p = { 5, 1, from_reader, encrypt, 0x60 };
-    MalstrinkSealed s = malstrink_seal(from_reader ? secure_r : secure_c, p, data, 1400, to_frame, room);
+    const MalstrinkToSeal p = { (uint8_t)(from_reader ? 0x85 : 5), 1, from_reader, encrypt, 0x60 };
+    MalstrinkSealed s = malstrink_seal(from_reader ? secure_r : secure_c, p, data, 200, to_frame, room);
     if (s.answer.refusal != 0) abort();
     return s.answer.a;
 }
@@ -173,6 +176,12 @@ int main(void)
     sealed_r_n = frame_of(true, true, sealed_r, sizeof sealed_r);
     memcpy(bad, sealed_c, sealed_c_n);
     bad[40] ^= 1;
+    if (malstrink_encrypt_data(client, server, data, 200, good, sizeof good).answer.a != 208) abort();
+    if (malstrink_session_seal_data(secure_c, data, 200, good_session, sizeof good_session).answer.a != 208) abort();
+    if (malstrink_decrypt_data(client, server, good, 208, out, sizeof out).answer.refusal != 0) abort();
+    if (malstrink_session_open_data(secure_r, good_session, 208, out, sizeof out).answer.refusal != 0) abort();
+    if (malstrink_unseal(secure_r, sealed_c, sealed_c_n, out, sizeof out).answer.refusal != 0) abort();
+    if (malstrink_unseal(secure_c, plain_r, plain_r_n, out, sizeof out).answer.refusal != 0) abort();
     nothing = taken(call_nothing);
     const size_t cleared = once(call_clear_stack);
     for (size_t i = 0; i < sizeof rows / sizeof *rows; i++) {
