@@ -1,8 +1,10 @@
-# Writes the archive's LLVM module anew for aarch64: what ties it to x86-64 goes, and each exported function takes and gives structs as the
-# AAPCS64 has it. The functions that do the work are not touched. Where something is met that this was not written for, it fails.
-#   - An answer in memory: its place comes first on x86-64, and in a register of its own (sret) here.
-#   - A struct that x86-64 takes on the stack (byval): of more than 16 bytes it comes as the place of the caller's copy, else in registers.
-#   - The other structs come in one or two registers on both, and eight registers have to be enough for all.
+# Writes the archive's LLVM module anew for aarch64: what ties it to x86-64 goes, and each exported
+# function takes and gives structs as the AAPCS64 has it. The functions that do the work are not
+# touched. Where something is met that this was not written for, it fails.
+#   - An answer in memory: its place comes first on x86-64, in a register of its own (sret) here.
+#   - A struct that x86-64 takes on the stack (byval): of more than 16 bytes it comes as the place
+#     of the caller's copy, else in registers.
+#   - The other structs come in one or two registers on both, and eight have to be enough for all.
 function fail(why) { print "aapcs64: " name ": " why > "/dev/stderr"; bad = 1; exit 1 }
 /^target datalayout/ { next }
 /^target triple/ { print "target triple = \"aarch64-unknown-linux-gnu\""; next }

@@ -1,8 +1,9 @@
-/* A handshake between a controller and a reader, then three commands and their replies, sealed, opened, and at the end both sessions wiped.
-   Build, once include/archive has made the archive:
+/* A handshake between a controller and a reader, then three commands and their replies, sealed and
+   opened, and at the end both sessions wiped. Build, once include/archive has made the archive:
        export PKG_CONFIG_PATH=target/archive/$(uname -m)
        cc include/example.c $(pkg-config --cflags --libs malstrink)
-   While you work on a program, compile it with -DMALSTRINK_CHECK as well: buffers that overlap are then caught. */
+   While you work on a program, compile it with -DMALSTRINK_CHECK as well: buffers that overlap are
+   then caught. */
 #include "malstrink.h"
 #include <stdio.h>
 #include <stdlib.h>
@@ -16,8 +17,9 @@ static void ask(MalstrinkAnswer a, const char *call)
     }
 }
 
-/* One end seals text, the other opens it. Three buffers, and no two share a byte: what is sealed, the frame on the line, and the room
-   in which the other end opens it. Both sessions move on: a frame is opened once, and the next one is sealed from where this one left. */
+/* One end seals text, the other opens it. Three buffers, and no two share a byte: what is sealed,
+   the frame on the line, and the room in which the other end opens it. Both sessions move on: a
+   frame is opened once, and the next one is sealed from where this one left. */
 static void carry(MalstrinkSession *from, MalstrinkSession *to, MalstrinkToSeal p, const char *text)
 {
     const uint8_t *data = (const uint8_t *)text;
@@ -38,8 +40,9 @@ static void carry(MalstrinkSession *from, MalstrinkSession *to, MalstrinkToSeal 
 
 int main(void)
 {
-    /* A key made up for this example. It is not OSDP's published default (30 31 .. 3F), which everybody has: give each reader
-       a key of its own. The random numbers are fixed here; both must be fresh for each handshake. */
+    /* A key made up for this example. It is not OSDP's published default (30 31 .. 3F), which
+       everybody has: give each reader a key of its own. The random numbers are fixed here; both
+       must be fresh for each handshake. */
     static const uint8_t made_up[16] = { 0x6E, 0xC4, 0x1B, 0x93, 0xF7, 0x28, 0x5D, 0xA0, 0x81, 0x3C, 0xE9, 0x56, 0x0F, 0xBA, 0x74, 0xD2 };
     static const uint8_t cuid[8] = { 1, 2, 3, 4, 5, 6, 7, 8 };
     static const uint8_t rnd_a[8] = { 0xA0, 0xA1, 0xA2, 0xA3, 0xA4, 0xA5, 0xA6, 0xA7 };
@@ -59,8 +62,8 @@ int main(void)
     ask(malstrink_session_receive_scrypt_in(&reader, server, first), "receive_scrypt");
     ask(malstrink_session_confirm_rmac_i_in(&controller, first), "confirm_rmac_i");
 
-    /* A connection begins with 0; the handshake's two commands went out with 1 and 2. Each new command takes the next number, which
-       after 3 is 1, and a reply has its command's. */
+    /* A connection begins with 0; the handshake's two commands went out with 1 and 2. Each new
+       command takes the next number, which after 3 is 1, and a reply has its command's. */
     static const char *const said[3] = { "open cabinet 12", "lamp on shelf 3", "close cabinet 12" };
     uint8_t sqn = 2;
     for (int i = 0; i < 3; i++) {

@@ -1,5 +1,6 @@
-/* The header's own C, tested: each form on a pointer answers what the call by value answers, stores the session back and leaves nothing on the
-   stack; the wipe clears; the constants and the records' sizes are what they were. Prints one line, or the first thing that is wrong. */
+/* The header's own C, tested: each form on a pointer answers what the call by value answers, stores
+   the session back and leaves nothing on the stack; the wipe clears; the constants and the records'
+   sizes are what they were. Prints one line, or the first thing that is wrong. */
 #include "painted.h"
 
 static int looked;
@@ -145,8 +146,8 @@ static bool secret_left(void)
     }
     return false;
 }
-/* Everything from the deepest byte that is not painted on must be zero, as far as malstrink_clear_stack reaches; a few bytes may stand there
-   that it needs for itself. */
+/* Everything from the deepest byte that is not painted on must be zero, as far as
+   malstrink_clear_stack reaches; a few bytes may stand there that it needs for itself. */
 static bool all_cleared(void)
 {
     size_t at = 0, own = 0;
@@ -187,7 +188,8 @@ static void leaves_nothing(void (*call)(void), const MalstrinkSession *from, con
     }
 }
 
-/* A session on the stack, with its key, at the end of its life. The one that is not wiped shows that the test sees a key. */
+/* A session on the stack, with its key, at the end of its life. The one that is not wiped shows
+   that the test sees a key. */
 static volatile uint8_t read_state;
 static void NOINLINE unwiped(void)
 {
@@ -210,7 +212,8 @@ static void NOINLINE wiped(void)
     malstrink_session_wipe_in(&mine);
     pad[1] = pad[0];
 }
-/* ends with a form, so that the compiler would like to give its own large frame back before the stack is cleared */
+/* ends with a form, so that the compiler would like to give its own large frame back before the
+   stack is cleared */
 static void NOINLINE ends_with_a_form(void)
 {
     volatile uint8_t pad[4096];

@@ -1,20 +1,24 @@
 /* Malstrink for C and C++: OSDP frames, the secure handshake at both ends, sealing and opening.
 
-   Link libmalstrink.a, which include/archive proves and makes, for x86-64 and for aarch64 (docs/RULES.md has what each call does).
-   The archive needs memcpy and memset and nothing else; it keeps to the System V ABI of x86-64, or to the AAPCS64, and is ELF. Sizes are
-   of 64 bits there, and the proofs are for 64-bit sizes: on a 32-bit machine nothing here is proved, and nothing is made for one.
-   Wants C99 or C++11, and gcc or clang.
+   Link libmalstrink.a, which include/archive proves and makes, for x86-64 and for aarch64
+   (docs/RULES.md has what each call does). The archive needs memcpy and memset and nothing else; it
+   keeps to the System V ABI of x86-64, or to the AAPCS64, and is ELF. Sizes are of 64 bits there,
+   and the proofs are for 64-bit sizes: on a 32-bit machine nothing here is proved, and nothing is
+   made for one. Wants C99 or C++11, and gcc or clang.
 
-   WHAT A CALLER OWES. A slice is a pointer and a length, of bytes that are there; a pointer of length 0 is not looked at. Of slices
-   that are lent to one call together, one that is written (out, work) must share no byte with another, nor with the session: that is
-   what restrict says below. A seal whose data stands in its own out answers 0 and seals other bytes. The proofs take it as given and the
-   calls cannot see it. Compiled with -DMALSTRINK_CHECK, every call through this header looks first, and where two overlap says on
-   stderr which, and aborts. Two slices that are only read may overlap.
+   WHAT A CALLER OWES. A slice is a pointer and a length, of bytes that are there; a pointer of
+   length 0 is not looked at. Of slices that are lent to one call together, one that is written
+   (out, work) must share no byte with another, nor with the session: that is what restrict says
+   below. A seal whose data stands in its own out answers 0 and seals other bytes. The proofs take
+   it as given and the calls cannot see it. Compiled with -DMALSTRINK_CHECK, every call through this
+   header looks first, and where two overlap says on stderr which, and aborts. Two slices that are
+   only read may overlap. A bool is 0 or 1, as C makes them; do not copy other bytes into one.
 
-   No call keeps a pointer, allocates, or fails in another way than by its answer. A lent buffer is written only where the answer says so:
-   after a refusal it is as it was, with two exceptions that leave no half-opened data behind: a deciphering refused by 14 zeroes the
-   data's length in out, and an unsealing of type 17 or 18 refused by 14 or 15 zeroes the encrypted data's length at the front of work. The
-   bytes after that stay. */
+   No call keeps a pointer, allocates, or fails in another way than by its answer. A lent buffer is
+   written only where the answer says so: after a refusal it is as it was, with two exceptions that
+   leave no half-opened data behind: a deciphering refused by 14 zeroes the data's length in out,
+   and an unsealing of type 17 or 18 refused by 14 or 15 zeroes the encrypted data's length at the
+   front of work. The bytes after that stay. */
 #ifndef MALSTRINK_H
 #define MALSTRINK_H
 
@@ -74,8 +78,8 @@ enum {
     MALSTRINK_STATE_CRYPTOGRAMMED = 2,
     MALSTRINK_STATE_SECURE = 3
 };
-/* block types (docs/RULES.md, 2.4): odd from the controller, even but for 11 from the reader; 11 to 14 are the handshake's, 15 and 16
-   sealed, 17 and 18 sealed and encrypted; no block is 0 */
+/* block types (docs/RULES.md, 2.4): 11, 13, 15, 17 from the controller, 12, 14, 16, 18 from the
+   reader; 11 to 14 the handshake's, 15 and 16 sealed, 17 and 18 sealed and encrypted; 0 no block */
 enum {
     MALSTRINK_BLOCK_NONE = 0,
     MALSTRINK_BLOCK_11 = 0x11,
@@ -88,7 +92,8 @@ enum {
     MALSTRINK_BLOCK_18 = 0x18
 };
 
-/* refusal 0: a is what was asked for. Otherwise the refusal's number and the values that it carries, in order. */
+/* refusal 0: a is what was asked for. Otherwise the refusal's number and the values that it
+   carries, in order. */
 typedef struct { uint8_t refusal; size_t a, b; } MalstrinkAnswer;
 
 /* An array crosses inside a struct. */
@@ -110,7 +115,8 @@ MalstrinkControl malstrink_control_decode(uint8_t byte);
 MalstrinkAnswer malstrink_control_encode(uint8_t sqn, bool crc, bool block);
 MalstrinkAnswer malstrink_scs_type(uint8_t byte);
 
-/* ---- reading; all 0 beside a refusal. Places are counted from the frame's first byte; no block has type 0, no MAC place 0 */
+/* ---- reading; all 0 beside a refusal. Places are counted from the frame's first byte; no block
+   has type 0, no MAC place 0 */
 typedef struct { MalstrinkAnswer answer; uint8_t ty, data_len; } MalstrinkBlock;
 typedef struct { MalstrinkAnswer answer; uint8_t addr; size_t len; uint8_t sqn; bool crc, block; } MalstrinkHead;
 typedef struct {
@@ -130,8 +136,8 @@ MalstrinkBlock malstrink_block(const uint8_t *bytes, size_t n);
 MalstrinkHead malstrink_head(const uint8_t *bytes, size_t n);
 MalstrinkParsed malstrink_parse(const uint8_t *bytes, size_t n);
 
-/* ---- building; block is the control byte's flag, block_type 0 where there is no block. a: how many bytes were written.
-   out overlaps neither block nor data */
+/* ---- building; block is the control byte's flag, block_type 0 where there is no block. a: how
+   many bytes were written. out overlaps neither block nor data */
 typedef struct { uint8_t addr, sqn; bool crc, block; uint8_t block_type, code; } MalstrinkPacket;
 typedef struct { bool given; uint8_t b0, b1, b2, b3; } MalstrinkMac;
 MalstrinkAnswer malstrink_build(MalstrinkPacket p, const uint8_t *block, size_t block_n, const uint8_t *data, size_t data_n,
@@ -150,7 +156,8 @@ MalstrinkBytes16 malstrink_server_cryptogram(MalstrinkBytes16 s_enc, MalstrinkBy
 MalstrinkBytes16 malstrink_initial_rmac(MalstrinkBytes16 s_mac1, MalstrinkBytes16 s_mac2, MalstrinkBytes16 server);
 MalstrinkBytes16 malstrink_diversify_scbk_legacy(MalstrinkBytes16 mk, MalstrinkBytes8 cuid);
 
-/* ---- padding, MAC and CBC; calls: how often the cipher was called, key expansion not counted. data and out do not overlap */
+/* ---- padding, MAC and CBC; calls: how often the cipher was called, key expansion not counted.
+   data and out do not overlap */
 typedef struct { MalstrinkAnswer answer; size_t calls; } MalstrinkCiphered;
 typedef struct { uint8_t full[16]; size_t calls; } MalstrinkChain;
 MalstrinkAnswer malstrink_pad_mac(const uint8_t *MALSTRINK_RESTRICT data, size_t data_n, uint8_t *MALSTRINK_RESTRICT out, size_t out_n);
@@ -163,10 +170,10 @@ MalstrinkCiphered malstrink_encrypt_data(MalstrinkBytes16 s_enc, MalstrinkBytes1
 MalstrinkCiphered malstrink_decrypt_data(MalstrinkBytes16 s_enc, MalstrinkBytes16 iv, const uint8_t *MALSTRINK_RESTRICT data, size_t data_n,
                                          uint8_t *MALSTRINK_RESTRICT out, size_t out_n);
 
-/* ---- sessions, by value: the answer brings the session after the call, and the old one, with its keys, stays where the caller had it.
-   The forms further down, on a pointer, leave one session and no copy: take those where you can.
-   A session with an end or a state that is none of the numbers above is refused by 16 and comes back unchanged. Beside a refusal,
-   block and keys are zeros. */
+/* ---- sessions, by value: the answer brings the session after the call, and the old one, with its
+   keys, stays where the caller had it. The forms further down, on a pointer, leave one session and
+   no copy: take those where you can. A session with an end or a state that is none of the numbers
+   above is refused by 16 and comes back unchanged. Beside a refusal, block and keys are zeros. */
 typedef struct {
     uint8_t end, state;
     uint8_t scbk[16], rnd_a[8], rnd_b[8], cuid[8];
@@ -179,8 +186,9 @@ typedef struct { MalstrinkAnswer answer; uint8_t block[16]; } MalstrinkBlockAnsw
 typedef struct { MalstrinkAnswer answer; MalstrinkKeys keys; } MalstrinkKeysAnswer;
 MalstrinkSession malstrink_session_new(MalstrinkBytes16 scbk);
 MalstrinkSession malstrink_session_new_reader(MalstrinkBytes16 scbk, MalstrinkBytes8 cuid);
-/* a session that is zero in all but end, whatever the numbers in end and state. s = malstrink_session_wipe(s) need not clear s:
-   a compiler drops stores that nothing reads. malstrink_session_wipe_in does */
+/* a session that is zero in all but end, whatever the numbers in end and state. To write
+   s = malstrink_session_wipe(s) need not clear s: a compiler drops stores that nothing reads.
+   malstrink_session_wipe_in clears it */
 MalstrinkSession malstrink_session_wipe(MalstrinkSession s);
 /* the controller's end */
 MalstrinkStepped malstrink_session_challenge(MalstrinkSession s, MalstrinkBytes8 rnd_a);
@@ -206,7 +214,8 @@ MalstrinkCiphered malstrink_session_open_data(MalstrinkSession s, const uint8_t 
 typedef struct { uint8_t addr, sqn; bool from_reader, encrypt; uint8_t code; } MalstrinkToSeal;
 /* the answer's a: how long the frame in out is */
 typedef struct { MalstrinkAnswer answer; size_t calls; MalstrinkSession session; } MalstrinkSealed;
-/* where the payload stands: in the work buffer, or (plain) in the frame itself; all 0 beside a refusal */
+/* where the payload stands: in the work buffer, or (plain) in the frame itself; all 0 beside a
+   refusal */
 typedef struct { MalstrinkAnswer answer; bool in_work; size_t start, len, calls; MalstrinkSession session; } MalstrinkUnsealed;
 /* data and out do not overlap */
 MalstrinkSealed malstrink_seal(MalstrinkSession s, MalstrinkToSeal p, const uint8_t *MALSTRINK_RESTRICT data, size_t data_n,
@@ -218,7 +227,7 @@ MalstrinkUnsealed malstrink_unseal(MalstrinkSession s, const uint8_t *MALSTRINK_
 MalstrinkAnswer malstrink_payload_test(const uint8_t *frame, size_t frame_n, const uint8_t *work, size_t work_n, bool in_work, size_t start,
                                        size_t len);
 
-/* ================ What follows is C over the proved calls: not proved, and tested by include/test. ================ */
+/* ======== What follows is C over the proved calls: not proved, and tested by include/test ======== */
 
 /* ---- MALSTRINK_CHECK: do slices overlap that must not? */
 #ifdef MALSTRINK_CHECK
@@ -310,18 +319,19 @@ static inline MalstrinkUnsealed malstrink_checked_unseal(MalstrinkSession s, con
 #endif
 
 /* ---- clearing */
-/* zeroes n bytes, by stores that a compiler keeps; for a key of your own that is no longer needed */
+/* zeroes n bytes, by stores that a compiler keeps; also for a key of your own, when it has served */
 static inline void malstrink_clear(void *p, size_t n)
 {
     volatile uint8_t *at = (volatile uint8_t *)p;
     while (n--) *at++ = 0;
 }
 
-/* How much stack a form below takes at most: measured by include/stack, rounded up (docs/PERFORMANCE.md has the table, call by call). */
+/* How much stack a form below takes, and zeroes: more than the deepest call needs, as include/stack
+   measures it. docs/PERFORMANCE.md, Stack, has the table, call by call. */
 #define MALSTRINK_STACK 2560
 
-/* A session crosses by value, so a call leaves copies of it on the stack. Each form below makes its call in a function of its own, that
-   is not inlined, and zeroes the stack that this function had. */
+/* A session crosses by value, so a call leaves copies of it on the stack. Each form below makes its
+   call in a function of its own, which is not inlined, and zeroes the stack that this one had. */
 #define MALSTRINK_ALONE static __attribute__((noinline, unused))
 MALSTRINK_ALONE void malstrink_clear_stack(void)
 {
@@ -330,7 +340,8 @@ MALSTRINK_ALONE void malstrink_clear_stack(void)
     size_t i;
     for (i = 0; i < MALSTRINK_STACK / 8; i++) at[i] = 0;
 }
-/* the empty asm keeps the compiler from jumping to malstrink_clear_stack when the caller's own frame is gone */
+/* the empty asm keeps the compiler from jumping to malstrink_clear_stack when the caller's own
+   frame is gone */
 #define MALSTRINK_CLEARED() do { malstrink_clear_stack(); __asm__ __volatile__("" ::: "memory"); } while (0)
 
 static inline MalstrinkBytes16 malstrink_bytes16(const uint8_t bytes[16])
@@ -355,12 +366,14 @@ static inline MalstrinkAnswer malstrink_given16(MalstrinkAnswer a, const uint8_t
     return a;
 }
 
-/* ---- sessions, by pointer: the proved call of the same name without _in, on the session where it stands. The session after the call is
-   stored back, also beside a refusal, and the stack that the call had is zeroed, MALSTRINK_STACK bytes of it: the header's own copies
-   of the session and what the archive's code laid down there, its key schedules among it. What is not cleared: the processor's registers
-   and wherever a system has saved them (a signal, a switch of tasks), your own arrays that a key came from (malstrink_clear), and s itself
-   until malstrink_session_wipe_in.
-   An array that is written (client_cryptogram, ..) lies outside the session, and is written only where the answer's refusal is 0. */
+/* ---- sessions, by pointer: the proved call of the same name without _in, on the session where it
+   stands. The session after the call is stored back, also beside a refusal, and the stack that the
+   call had is zeroed, MALSTRINK_STACK bytes of it: the header's own copies of the session and what
+   the archive's code laid down there, its key schedules among it. What is not cleared: the
+   processor's registers and wherever a system has saved them (a signal, a switch of tasks), your
+   own arrays that a key came from (malstrink_clear), and s itself until malstrink_session_wipe_in.
+   An array that is written (client_cryptogram, ..) lies outside the session, and is written only
+   where the answer's refusal is 0. */
 
 MALSTRINK_ALONE void malstrink_alone_new(MalstrinkSession *s, const uint8_t scbk[16])
 {
@@ -382,7 +395,7 @@ static inline void malstrink_session_new_reader_in(MalstrinkSession *s, const ui
     MALSTRINK_CLEARED();
 }
 
-/* zeroes all of *s but end, as malstrink_session_wipe answers it, by stores that a compiler keeps */
+/* zeroes all of *s but end, as malstrink_session_wipe does, by stores that a compiler keeps */
 static inline void malstrink_session_wipe_in(MalstrinkSession *s)
 {
     const uint8_t end = s->end;
@@ -584,7 +597,8 @@ static inline MalstrinkCiphered malstrink_session_open_data_in(const MalstrinkSe
     return r;
 }
 
-/* ---- sealed frames, by pointer. The answer's a: how long the frame in out is. data, out and the session do not overlap */
+/* ---- sealed frames, by pointer. The answer's a: how long the frame in out is. data, out and the
+   session do not overlap */
 MALSTRINK_ALONE MalstrinkCiphered malstrink_alone_seal(MalstrinkSession *s, MalstrinkToSeal p, const uint8_t *data, size_t data_n, uint8_t *out,
                                                        size_t out_n)
 {
@@ -605,7 +619,8 @@ static inline MalstrinkCiphered malstrink_seal_in(MalstrinkSession *MALSTRINK_RE
     return c;
 }
 
-/* payload: len bytes, in work or (plain) in frame itself, so good while both are; NULL and len 0 beside a refusal. frame, work and the session do not overlap */
+/* payload: len bytes, in work or (plain) in frame itself, so good while both are; NULL and len 0
+   beside a refusal. frame, work and the session do not overlap */
 typedef struct { MalstrinkAnswer answer; const uint8_t *payload; size_t len, calls; } MalstrinkOpened;
 MALSTRINK_ALONE MalstrinkOpened malstrink_alone_unseal(MalstrinkSession *s, const uint8_t *frame, size_t frame_n, uint8_t *work, size_t work_n)
 {

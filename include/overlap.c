@@ -1,5 +1,6 @@
-/* Compiled with MALSTRINK_CHECK: every call that is handed overlapping slices must say which and abort. What it says goes to stderr, in the
-   order of the cases here, and the script `test` compares it. `overlap abort` makes one such call and lets it abort. */
+/* Compiled with MALSTRINK_CHECK: every call that is handed overlapping slices must say which and
+   abort. What it says goes to stderr, in the order of the cases here, and the script `test`
+   compares it. `overlap abort` makes one such call and lets it abort. */
 #ifndef _XOPEN_SOURCE
 #define _XOPEN_SOURCE 700
 #endif

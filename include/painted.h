@@ -1,4 +1,5 @@
-/* Runs a function on a stack of its own, painted before, so that what it left there can be looked at. For stack.c and forms.c. */
+/* Runs a function on a stack of its own, painted before, so that what it left there can be looked
+   at. For stack.c and forms.c. */
 #ifndef _XOPEN_SOURCE
 #define _XOPEN_SOURCE 700
 #endif

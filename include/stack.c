@@ -1,5 +1,6 @@
-/* How much stack each call takes, its answer and the session that it is handed included: one line a call, its name and the bytes. Where a
-   call has several ways (encrypted or not, refused or not), each is taken, and the deepest counts. The script `stack` makes a table of it. */
+/* How much stack each call takes, its answer and the session that it is handed included: one line a
+   call, its name and the bytes. Where a call has several ways (encrypted or not, refused or not),
+   each is taken, and the deepest counts. The script `stack` makes a table of it. */
 #include "painted.h"
 
 static uint8_t data[256], out[512], plain_c[512], sealed_c[512], plain_r[512], sealed_r[512], bad[512];
@@ -76,7 +77,8 @@ CALL(session_open_data, ciphered, malstrink_session_open_data(*one, ciphered, le
 CALL(seal, sealed, malstrink_seal(*one, asked, data, lengths[at_length], out, sizeof out))
 CALL(unseal, unsealed, malstrink_unseal(*one, seen, seen_n, out, sizeof out))
 CALL(payload_test, answer, malstrink_payload_test(seen, seen_n, out, sizeof out, true, 5, 5))
-/* the functions that the forms on a pointer make their call in, and what clears the stack behind them */
+/* the functions that the forms on a pointer make their call in, and what clears the stack behind
+   them */
 STEP(session_new_in, malstrink_alone_new(&held, test_scbk))
 STEP(session_new_reader_in, malstrink_alone_new_reader(&held, test_scbk, test_cuid))
 CALL(session_challenge_in, answer, malstrink_alone_challenge(&held, test_rnd_a))
