@@ -1,6 +1,18 @@
-// Lists the frames of standard input: at most 65,536 bytes of it, up to the end or the first refusal.
+// Lists the frames of a file or of standard input: at most 65,536 bytes of it, up to the end or the first refusal.
+use libc::STDERR_FILENO;
+
 fn main() {
     let mut buf = io::large_buffer();
-    let n = io::read_full(0, &mut buf);
+    let came = input::read(b"framelist", &mut buf);
+    if !came.all {
+        return;
+    }
+    let n = came.len;
     listing::list(&buf[..n]);
+    if n == buf.len() {
+        io::write_all(
+            STDERR_FILENO,
+            b"framelist: 65536 bytes were read, the most it reads; anything further was not read\n",
+        );
+    }
 }

@@ -1,6 +1,18 @@
-// framelist, on a second capture: a sealed frame, a frame with a checksum, and a refusal with frames after it.
+// framelist, on a second capture, given as a file: a sealed frame, a frame with a checksum, and a refusal with frames after it.
+use libc::STDERR_FILENO;
+
 fn main() {
     let mut buf = io::large_buffer();
-    let n = io::read_full(0, &mut buf);
+    let came = input::read(b"framelist", &mut buf);
+    if !came.all {
+        return;
+    }
+    let n = came.len;
     listing::list(&buf[..n]);
+    if n == buf.len() {
+        io::write_all(
+            STDERR_FILENO,
+            b"framelist: 65536 bytes were read, the most it reads; anything further was not read\n",
+        );
+    }
 }

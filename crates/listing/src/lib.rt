@@ -1,47 +1,103 @@
-// Lists the frames of a capture on standard output (docs/RULES.md, 11).
+// Lists the frames of a capture on standard output; a refusal, and a write that fails, are also said on standard error (docs/RULES.md, 11).
 ghost use mathlib.Core.Path.{_≡_};
 ghost use Rattle.listing.specs.Listed.{listed};
+use libc::STDERR_FILENO;
+use libc::STDOUT_FILENO;
 use packet_parse::Parsed;
 use packet_parse::ParsedPacket;
 use refusal::Refusal;
 
+fn say(text: &[u8]) {
+    io::write_all(STDERR_FILENO, text);
+}
+
 // A number and a space.
-fn put(n: usize) {
-    io::print_decimal(1, n as u64);
-    io::write_all(1, b" ");
+fn put(n: usize) -> bool {
+    io::print_decimal(STDOUT_FILENO, n as u64) && io::write_all(STDOUT_FILENO, b" ")
 }
 
-fn put_line(at: usize, p: ParsedPacket) {
-    put(at);
-    put(p.len);
-    put(p.addr.as_byte() as usize);
-    put(p.ctrl.sqn.value() as usize);
-    put(p.code as usize);
-    io::print_decimal(1, p.data_len as u64);
-    io::write_all(1, b"\n");
+// A number, and the line's end.
+fn put_last(n: usize) -> bool {
+    io::print_decimal(STDOUT_FILENO, n as u64) && io::write_all(STDOUT_FILENO, b"\n")
 }
 
-fn put_refused(at: usize, e: Refusal) {
-    put(at);
-    io::write_all(1, b"refused ");
-    io::print_decimal(1, e.number() as u64);
-    io::write_all(1, b"\n");
+// Why a write failed is in errno, so it is said at once. Answers whether it did not.
+fn written(ok: bool) -> bool {
+    if !ok {
+        os::fail(b"framelist: cannot write");
+    }
+    ok
+}
+
+fn put_title() -> bool {
+    written(io::write_all(STDOUT_FILENO, b"at len addr sqn code data\n"))
+}
+
+// Once a write has failed, nothing more is written. So it is with a refusal's line.
+fn put_line(ok: bool, at: usize, p: ParsedPacket) -> bool {
+    if !ok {
+        return false;
+    }
+    written(
+        put(at)
+            && put(p.len)
+            && put(p.addr.as_byte() as usize)
+            && put(p.ctrl.sqn.value() as usize)
+            && put(p.code as usize)
+            && put_last(p.data_len),
+    )
+}
+
+fn put_refused(ok: bool, at: usize, e: Refusal) -> bool {
+    if !ok {
+        return false;
+    }
+    written(put(at) && io::write_all(STDOUT_FILENO, b"refused ") && put_last(e.number() as usize))
+}
+
+// Why, in words, for the refusals that reading a frame has.
+fn say_why(e: Refusal) {
+    match e {
+        Refusal::Truncated { have: _, need: _ } => say(b"the bytes end before the frame does"),
+        Refusal::BadSom(_) => say(b"no frame begins here"),
+        Refusal::BadControlByte(_) => say(b"the control byte is wrong"),
+        Refusal::BadLength {
+            declared: _,
+            actual: _,
+        } => say(b"the length leaves no room for what the frame must hold"),
+        Refusal::BadSecurityBlockLength(_) => say(b"the security block's length is wrong"),
+        Refusal::BadSecurityBlock(_) => say(b"the security block's type is unknown"),
+        Refusal::BadCrc { got: _, want: _ } => say(b"the CRC is wrong"),
+        Refusal::BadChecksum { got: _, want: _ } => say(b"the checksum is wrong"),
+        _ => say(b"docs/RULES.md, 1.2"),
+    }
+}
+
+fn say_refused(at: usize, e: Refusal) {
+    say(b"framelist: refused at ");
+    io::print_decimal(STDERR_FILENO, at as u64);
+    say(b" by ");
+    io::print_decimal(STDERR_FILENO, e.number() as u64);
+    say(b": ");
+    say_why(e);
+    say(b"\n");
 }
 
 // Answers how many bytes were frames, up to the end or the first refusal.
 pub fn list(capture: &[u8]) -> usize
     ensures { λ r. ⌜ r ≡ listed (now (capture .entry)) ⌝ }
 {
-    io::write_all(1, b"at len addr sqn code data\n");
+    let mut ok = put_title();
     let mut at = 0;
     while at < capture.len() {
         match packet_parse::parse(&capture[at..]) {
             Parsed::Good(p) => {
-                put_line(at, p);
+                ok = put_line(ok, at, p);
                 at += p.len;
             }
             Parsed::Refused(e) => {
-                put_refused(at, e);
+                put_refused(ok, at, e);
+                say_refused(at, e);
                 return at;
             }
         }

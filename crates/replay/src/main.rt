@@ -1,6 +1,11 @@
-// Stored cases beside the proved calls. Standard input has a part for each call, and one for each worked case of the paper: the call's
+// Stored cases beside the proved calls. The input has a part for each call, and one for each worked case of the paper: the call's
 // number, with 128 added where it is lent a buffer, how many cases there are, their name; then the cases, each what the call is handed
-// and the answer that the oracle gives (oracle/store writes them). A line for each part tells how many of its cases agree.
+// and the answer that the oracle gives (oracle/store writes them). A line for each part tells how many of its cases agree; cases that
+// do not, and an input that is cut, are said on standard error too, in a line that begins `replay: refused `.
+ghost use Prim.Native.Nat.{_≤_};
+ghost use mathlib.Core.Path.{_≡_};
+ghost use lib.ListN.{length};
+
 mod ciphers;
 mod frames;
 mod given;
@@ -8,15 +13,8 @@ mod room;
 mod sessions;
 mod want;
 
+use libc::STDERR_FILENO;
 use libc::STDOUT_FILENO;
-
-// Reads n bytes, and answers whether there were as many.
-fn read(buf: &mut [u8], n: usize) -> bool {
-    if buf.len() < n {
-        return false;
-    }
-    io::read_full(0, &mut buf[..n]) == n
-}
 
 // Whether the call's answer is the one wanted.
 fn agrees(op: u8, x: &[u8], w: &[u8]) -> bool {
@@ -32,80 +30,164 @@ fn agrees(op: u8, x: &[u8], w: &[u8]) -> bool {
     sessions::call(op, x, w) == w.len()
 }
 
-fn judged(op: u8, x: &[u8; 1024], n: usize, w: &[u8; 1024], m: usize) -> bool {
-    agrees(op, given::first(x, n), given::first(w, m))
+// A case is two lengths, and that many bytes each.
+fn case_len(x: &[u8]) -> usize {
+    4 + given::two(x) + given::two(given::from(x, 2))
 }
 
-// The next case: two lengths, of 1,024 at most, and that many bytes each.
-fn case(op: u8) -> bool {
-    let mut head = [0u8; 4];
-    let mut x = [0u8; 1024];
-    let mut w = [0u8; 1024];
-    if !read(&mut head, 4) {
-        return false;
-    }
-    let n = given::two(&head);
-    let m = given::two(given::from(&head, 2));
-    if !read(&mut x, n) {
-        return false;
-    }
-    if !read(&mut w, m) {
-        return false;
-    }
-    judged(op, &x, n, &w, m)
+fn case_agrees(op: u8, x: &[u8]) -> bool {
+    let n = given::two(x);
+    let m = given::two(given::from(x, 2));
+    agrees(
+        op,
+        given::first(given::from(x, 4), n),
+        given::first(given::from(x, 4 + n), m),
+    )
 }
 
 fn more(n: u64) -> u64 {
     if n < 0xffff_ffff_ffff_ffff { n + 1 } else { n }
 }
 
-// How many of the next cases agree.
-fn cases(op: u8, count: usize) -> u64 {
+// Where the next case or the next part begins, and how many of the cases before it agree. There is no next one where it is
+// `over`: what is wrong has been said.
+struct Seen {
+    at: usize,
+    right: u64,
+    over: bool,
+}
+
+fn say_cut(at: usize) {
+    io::write_all(STDERR_FILENO, b"replay: refused at ");
+    io::print_decimal(STDERR_FILENO, at as u64);
+    io::write_all(
+        STDERR_FILENO,
+        b": the input ends before what begins there does\n",
+    );
+}
+
+// The cases of one call, of which the first begins at `from`.
+fn cases(op: u8, count: usize, x: &[u8], from: usize) -> Seen
+    requires { ⌜ from ≤ length (now x) ⌝ }
+    ensures { λ r. ⌜ r .at ≤ length (now (x .entry)) ⌝ }
+{
+    let mut at = from;
     let mut right = 0;
     for _ in 0..count {
-        if case(op) {
+        let len = case_len(given::from(x, at));
+        if x.len() - at < len {
+            say_cut(at);
+            return Seen {
+                at,
+                right,
+                over: true,
+            };
+        }
+        if case_agrees(op, given::from(x, at)) {
             right = more(right);
         }
+        at += len;
     }
-    right
+    Seen {
+        at,
+        right,
+        over: false,
+    }
 }
 
-fn tell(name: &[u8], right: u64, of: usize) {
-    io::write_all(STDOUT_FILENO, name);
-    io::write_all(STDOUT_FILENO, b": ");
-    io::print_decimal(STDOUT_FILENO, right);
-    io::write_all(STDOUT_FILENO, b" of ");
-    io::print_decimal(STDOUT_FILENO, of as u64);
-    io::write_all(STDOUT_FILENO, b"\n");
+fn put(name: &[u8], right: u64, of: u64) -> bool {
+    io::write_all(STDOUT_FILENO, name)
+        && io::write_all(STDOUT_FILENO, b": ")
+        && io::print_decimal(STDOUT_FILENO, right)
+        && io::write_all(STDOUT_FILENO, b" of ")
+        && io::print_decimal(STDOUT_FILENO, of)
+        && io::write_all(STDOUT_FILENO, b"\n")
 }
 
-fn told(name: &[u8; 64], n: usize, right: u64, of: usize) {
-    tell(given::first(name, n), right, of);
-}
-
-// The cases of one call; answers whether there was a call.
-fn part() -> bool {
-    let mut head = [0u8; 4];
-    let mut name = [0u8; 64];
-    if !read(&mut head, 4) {
+// Answers whether the line could be written.
+fn tell(name: &[u8], right: u64, of: u64) -> bool {
+    if !put(name, right, of) {
+        os::fail(b"replay: cannot write");
         return false;
     }
-    let op = given::byte(&head, 0);
-    let count = given::two(given::from(&head, 1));
-    let n = given::two(given::from(&head, 3));
-    if !read(&mut name, n) {
-        return false;
+    if right != of {
+        io::write_all(STDERR_FILENO, b"replay: refused by answers that differ: ");
+        io::write_all(STDERR_FILENO, name);
+        io::write_all(STDERR_FILENO, b"\n");
     }
-    told(&name, n, cases(op, count), count);
     true
 }
 
+// The part that begins at `from`: a head of 4 bytes, the last of them the name's length; the name; the cases.
+fn part(x: &[u8], from: usize) -> Seen
+    requires { ⌜ from ≤ length (now x) ⌝ }
+    ensures { λ r. ⌜ r .at ≤ length (now (x .entry)) ⌝ }
+{
+    let head = given::from(x, from);
+    let count = given::two(given::from(head, 1));
+    let n = given::two(given::first(given::from(head, 3), 1));
+    if x.len() - from < 4 + n {
+        say_cut(from);
+        return Seen {
+            at: from,
+            right: 0,
+            over: true,
+        };
+    }
+    let seen = cases(given::byte(head, 0), count, x, from + 4 + n);
+    if seen.over {
+        return seen;
+    }
+    let ok = tell(
+        given::first(given::from(head, 4), n),
+        seen.right,
+        count as u64,
+    );
+    Seen {
+        at: seen.at,
+        right: seen.right,
+        over: !ok,
+    }
+}
+
+// A part's call is told by a byte, so there are no more.
 const PARTS: usize = 256;
 
-fn main() {
+fn parts(x: &[u8]) {
+    let mut at = 0;
     for _ in 0..PARTS {
-        if !part() {
+        let seen = part(x, at);
+        if seen.over {
+            return;
+        }
+        at = seen.at;
+        if at == x.len() {
             return;
         }
     }
+    say_cut(at);
+}
+
+// Room for more than is stored; a function of its own, so that `main`'s proof sees the length and not the zeros.
+fn space() -> [u8; 2097152]
+    ensures { λ r. ⌜ 2097152 ≡ length r ⌝ }
+{
+    [0; 2097152]
+}
+
+fn main() {
+    let mut buf = space();
+    let came = input::read(b"replay", &mut buf);
+    if !came.all {
+        return;
+    }
+    let n = came.len;
+    if n == buf.len() {
+        io::write_all(
+            STDERR_FILENO,
+            b"replay: cannot take an input of 2097152 bytes or more\n",
+        );
+        return;
+    }
+    parts(&buf[..n]);
 }

@@ -16,10 +16,10 @@ use Rattle.listing.proofs.list.Statement.{statement}
 use Rattle.listing.proofs.list.Tie as tie
 
 abbrev Inv-loop : tie.InvT-loop
-Inv-loop capture at₀ at = PassedFrames capture at
+Inv-loop capture ok₀ at₀ ok at = PassedFrames capture at
 
 abbrev μ-loop : tie.MeasureT-loop
-μ-loop capture at₀ at = length capture - at
+μ-loop capture ok₀ at₀ ok at = length capture - at
 
 rest-of : (s : List ℕ) (at : ℕ) → take (length s - at) (drop at s) ≡ drop at s
 rest-of s at = take-all (length s - at) (drop at s) (simp length-drop (omega arith))
@@ -32,7 +32,7 @@ abbrev place : tie.After-struct-known Inv-loop μ-loop → ℕ
 place c = turning c .before .loop .at
 
 abbrev all : tie.After-struct-known Inv-loop μ-loop → List ℕ
-all c = turning c .before .before .before .before .before .args .capture .now
+all c = turning c .before .before .before .before .args .capture .now
 
 abbrev frame : tie.After-struct-known Inv-loop μ-loop → Fields
 frame c = fields (c .before .before .before .p .given .0 .0)
@@ -45,7 +45,7 @@ inside c = let i = accepted-inside (drop (place c) (all c)) (frame c) (found c) 
     rw (length-drop (place c) (all c)) at i
 
 loop-holds : tie.Need-loop-holds Inv-loop μ-loop
-loop-holds c = passed-none (c .before .before .before .args .capture .now)
+loop-holds c = passed-none (c .before .before .args .capture .now)
 
 add-at : tie.Need-add-at Inv-loop μ-loop
 add-at c = let i = inside c in omega (arith, i .least, i .most, turning c .before .loop .inv .within)
@@ -61,11 +61,12 @@ loop-again c =
 
 returns : tie.Need-returns Inv-loop μ-loop
 returns c =
-    let l = c .before .before .before .before .before .before .before .loop in
-    let s = c .before .before .before .before .before .before .before .before .before .before .before .args .capture .now in
-    let e : parseOf (drop (l .at) s) ≡ refusalOf (c .before .before .e .given .0 .0) =
-    ap parseOf (sym (rest-of s (l .at))) ∙ sym (c .before .before .before .before .parse .ensures) ∙ ap parsed (c .before .before .e .given .1) in
-    passed-refused s (l .at) _ _ (c .before .before .before .before .before .before .loop-test .taken) e (l .inv)
+    let t = c .before .before .before .before .before .before .before in
+    let l = t .before .loop in
+    let s = t .before .before .before .before .args .capture .now in
+    let e : parseOf (drop (l .at) s) ≡ refusalOf (c .before .before .before .e .given .0 .0) =
+    ap parseOf (sym (rest-of s (l .at))) ∙ sym (c .before .before .before .before .before .parse .ensures) ∙ ap parsed (c .before .before .before .e .given .1) in
+    passed-refused s (l .at) _ _ (t .loop-test .taken) e (l .inv)
 
 returns-2 : tie.Need-returns-2 Inv-loop μ-loop
 returns-2 c = passed-all _ _ (c .loop-test .left) (c .before .loop .inv)
@@ -76,7 +77,6 @@ list-spec =
     (tie.spec
     Inv-loop
     μ-loop
-    (λ c. search needs)
     (λ c κs. search needs)
     loop-holds
     (λ c. search needs)
@@ -89,6 +89,7 @@ list-spec =
     loop-less
     loop-again
     (λ c. search needs)
+    (λ c κs. search needs)
     (λ c κs. search needs)
     returns
     returns-2)
