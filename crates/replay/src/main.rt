@@ -1,7 +1,7 @@
-// Stored cases beside the proved calls. The input has a part for each call, and one for each worked case of the paper: the call's
-// number, with 128 added where it is lent a buffer, how many cases there are, their name; then the cases, each what the call is handed
-// and the answer that the oracle gives (oracle/store writes them). A line for each part tells how many of its cases agree; cases that
-// do not, and an input that is cut, are said on standard error too, in a line that begins `replay: refused `.
+// Asks the calls of the C interface the stored questions, and tells of each how many answers are the stored ones. The input has a part
+// for each call, and one for each worked case of the paper: the call's number, with 128 added where it is lent a buffer, how many
+// cases there are, their name; then the cases, each what the call is handed and the answer that the oracle gives (oracle/store writes
+// them). Answers that differ, and an input that is cut, are said on standard error too, in a line that begins `replay: refused `.
 ghost use Prim.Native.Nat.{_≤_};
 ghost use mathlib.Core.Path.{_≡_};
 ghost use lib.ListN.{length};
@@ -57,13 +57,18 @@ struct Seen {
     over: bool,
 }
 
-fn say_cut(at: usize) {
+fn say_refused(at: usize, why: &[u8]) {
     io::write_all(STDERR_FILENO, b"replay: refused at ");
     io::print_decimal(STDERR_FILENO, at as u64);
-    io::write_all(
-        STDERR_FILENO,
-        b": the input ends before what begins there does\n",
-    );
+    io::write_all(STDERR_FILENO, why);
+}
+
+fn say_cut(at: usize) {
+    say_refused(at, b": what begins there is cut short\n");
+}
+
+fn say_more(at: usize) {
+    say_refused(at, b": more calls than there are\n");
 }
 
 // The cases of one call, of which the first begins at `from`.
@@ -165,7 +170,7 @@ fn parts(x: &[u8]) {
             return;
         }
     }
-    say_cut(at);
+    say_more(at);
 }
 
 // Room for more than is stored; a function of its own, so that `main`'s proof sees the length and not the zeros.
