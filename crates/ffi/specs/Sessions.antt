@@ -15,10 +15,12 @@ use Rattle.secure_session.specs.declared.session.End.the-variants.{Controller, 
 use Rattle.secure_session.specs.declared.session.State.{State}
 use Rattle.secure_session.specs.declared.session.State.the-variants.{Disconnected, Challenged, Cryptogrammed, Secure}
 use Rattle.secure_session.specs.declared.session.Session.{Session}
+use Rattle.secure_session.specs.declared.door.SessionFields.{SessionFields}
 use Rattle.secure_session.specs.declared.session.SteppedBlock.{SteppedBlock}
 use Rattle.secure_session.specs.declared.session.BlockAnswer.{BlockAnswer}
 use Rattle.secure_session.specs.declared.session.KeysAnswer.{KeysAnswer}
 use Rattle.secure_session.specs.Session.{endNumber, stateNumber, noKeys}
+use Rattle.secure_session.specs.Door.{doorOut, doorIn}
 use Rattle.secure_session.specs.Handshake.{Step, blockBeside}
 use Rattle.secure_session.specs.Channel.{keysBeside}
 use Rattle.ffi.specs.Answers.{cRefused, cRefusal, cYes, cOutcome}
@@ -50,9 +52,13 @@ stateArg n =
 abbrev pub keysArg : CKeys → SessionKeys
 keysArg k = record { «s_enc» = k .«s_enc»; «s_mac1» = k .«s_mac1»; «s_mac2» = k .«s_mac2» }
 
-abbrev pub sessionWith : CSession → End → State → Session
-sessionWith c e t =
+-- what C holds, as a session has it; the only place beside `cFields` where C's fields and a session's meet
+abbrev pub fieldsArg : CSession → End → State → SessionFields
+fieldsArg c e t =
     record { end = e; state = t; scbk = c .scbk; «rnd_a» = c .«rnd_a»; «rnd_b» = c .«rnd_b»; cuid = c .cuid; keys = keysArg (c .keys); chain = c .chain }
+
+abbrev pub sessionWith : CSession → End → State → Session
+sessionWith c e t = doorIn (fieldsArg c e t)
 
 -- 16 where end is above 1 or state above 3
 unfoldable pub sessionArg : CSession → Answer Session
@@ -65,9 +71,12 @@ reading (refused n vs) f g = g n vs
 
 -- ---- a session that goes out
 
+abbrev pub cFields : SessionFields → CSession
+cFields f =
+    record { end = endNumber (f .end); state = stateNumber (f .state); scbk = f .scbk; «rnd_a» = f .«rnd_a»; «rnd_b» = f .«rnd_b»; cuid = f .cuid; keys = cKeys (f .keys); chain = f .chain }
+
 abbrev pub cSession : Session → CSession
-cSession s =
-    record { end = endNumber (s .end); state = stateNumber (s .state); scbk = s .scbk; «rnd_a» = s .«rnd_a»; «rnd_b» = s .«rnd_b»; cuid = s .cuid; keys = cKeys (s .keys); chain = s .chain }
+cSession s = cFields (doorOut s)
 
 -- everything zero but the byte that says which end it is
 abbrev pub cWiped : CSession → CSession

@@ -79,8 +79,7 @@ fn seal_refused(x: Session, e: Refusal) -> Sealed
 fn seal_asked(x: Session, p: CToSeal, data: &[u8], out: &mut [u8]) -> Sealed
     ensures { λ r. ⌜ sealTold r (now (out .exit)) ≡ sealOf x (askedArg p (now («data» .entry))) (now (out .entry)) ⌝ }
 {
-    let state = x.state;
-    if !secure_session::is_secure(state) {
+    if !x.is_secure() {
         return seal_refused(x, Refusal::WrongState);
     }
     match Sqn::new(p.sqn) {

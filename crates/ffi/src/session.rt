@@ -5,7 +5,7 @@ ghost use Rattle.refusal.specs.Paper.{refusalOf};
 ghost use Rattle.secure_session.specs.declared.session.End.the-variants.{Controller, Reader};
 ghost use Rattle.secure_session.specs.Session.{fresh};
 ghost use Rattle.secure_session.specs.Handshake.{challengeOf, receiveCcryptOf, serverCryptogramOf, initialRmacOf, confirmOf, receiveChallengeOf, receiveScryptOf, stepped};
-ghost use Rattle.ffi.specs.Sessions.{endArg, stateArg, sessionWith, sessionArg, endRead, stateRead, taken, cSession, cWiped, cStepped, cBlockAnswer, toldBlock, toldAnswer, noStep, noSteppedBlock, steppedArg, steppedBlockArg, blockAnswerArg};
+ghost use Rattle.ffi.specs.Sessions.{endArg, stateArg, fieldsArg, cFields, sessionWith, sessionArg, endRead, stateRead, taken, cSession, cWiped, cStepped, cBlockAnswer, toldBlock, toldAnswer, noStep, noSteppedBlock, steppedArg, steppedBlockArg, blockAnswerArg};
 use super::answer::CAnswer;
 use super::answer::outcome_c;
 use super::answer::refused;
@@ -19,6 +19,7 @@ use secure_keys::SessionKeys;
 use secure_session::BlockAnswer;
 use secure_session::End;
 use secure_session::Session;
+use secure_session::SessionFields;
 use secure_session::State;
 use secure_session::Stepped;
 use secure_session::SteppedBlock;
@@ -98,8 +99,9 @@ fn state_of(n: u8) -> StateRead
     }
 }
 
-fn session_with(c: CSession, end: End, state: State) -> Session
-    ensures { λ r. ⌜ r ≡ sessionWith c end state ⌝ }
+// What C holds, as a session has it.
+fn fields_of(c: CSession, end: End, state: State) -> SessionFields
+    ensures { λ r. ⌜ r ≡ fieldsArg c end state ⌝ }
 {
     let scbk = c.scbk;
     let rnd_a = c.rnd_a;
@@ -110,7 +112,7 @@ fn session_with(c: CSession, end: End, state: State) -> Session
     let s_mac1 = k.s_mac1;
     let s_mac2 = k.s_mac2;
     let chain = c.chain;
-    Session {
+    SessionFields {
         end,
         state,
         scbk,
@@ -124,6 +126,13 @@ fn session_with(c: CSession, end: End, state: State) -> Session
         },
         chain,
     }
+}
+
+// The one way in.
+fn session_with(c: CSession, end: End, state: State) -> Session
+    ensures { λ r. ⌜ r ≡ sessionWith c end state ⌝ }
+{
+    Session::door_in(fields_of(c, end, state))
 }
 
 fn not_taken(c: CSession, e: Refusal) -> Taken
@@ -154,17 +163,18 @@ pub(crate) fn take(c: CSession) -> Taken
     }
 }
 
-pub(crate) fn session_c(s: Session) -> CSession
-    ensures { λ r. ⌜ r ≡ cSession s ⌝ }
+// What a session holds, as C has it.
+fn fields_c(f: SessionFields) -> CSession
+    ensures { λ r. ⌜ r ≡ cFields f ⌝ }
 {
-    let end = s.end;
-    let state = s.state;
-    let scbk = s.scbk;
-    let rnd_a = s.rnd_a;
-    let rnd_b = s.rnd_b;
-    let cuid = s.cuid;
-    let keys = keys_c(s.keys);
-    let chain = s.chain;
+    let end = f.end;
+    let state = f.state;
+    let scbk = f.scbk;
+    let rnd_a = f.rnd_a;
+    let rnd_b = f.rnd_b;
+    let cuid = f.cuid;
+    let keys = keys_c(f.keys);
+    let chain = f.chain;
     CSession {
         end: end_number(end),
         state: state_number(state),
@@ -175,6 +185,13 @@ pub(crate) fn session_c(s: Session) -> CSession
         keys,
         chain,
     }
+}
+
+// The one way out.
+pub(crate) fn session_c(s: Session) -> CSession
+    ensures { λ r. ⌜ r ≡ cSession s ⌝ }
+{
+    fields_c(s.door_out())
 }
 
 // ---- answers

@@ -11,6 +11,7 @@ mod frames;
 mod given;
 mod room;
 mod sessions;
+mod stored;
 mod want;
 
 use libc::STDERR_FILENO;

@@ -5,6 +5,7 @@ use super::ciphers;
 use super::frames;
 use super::given;
 use super::sessions;
+use super::stored;
 use super::want;
 
 fn filled() -> [u8; 1024]
@@ -26,7 +27,7 @@ fn room_at(op: u8) -> usize {
     } else if op < 28 {
         0
     } else {
-        106
+        stored::SIZE
     }
 }
 

@@ -1,69 +1,14 @@
 // The session's calls, sealing and unsealing.
 use super::given;
+use super::stored;
+use super::stored::session_like;
+use super::stored::session_of;
 use super::want;
 use ffi::Bytes4;
 use ffi::CBlockAnswer;
-use ffi::CKeys;
-use ffi::CSession;
 use ffi::CStepped;
 use ffi::CSteppedBlock;
 use ffi::CToSeal;
-
-fn keys_of(x: &[u8]) -> CKeys {
-    let s_enc = given::sixteen(x);
-    let s_mac1 = given::sixteen(given::from(x, 16));
-    let s_mac2 = given::sixteen(given::from(x, 32));
-    let e = s_enc.bytes;
-    let m1 = s_mac1.bytes;
-    let m2 = s_mac2.bytes;
-    CKeys {
-        s_enc: e,
-        s_mac1: m1,
-        s_mac2: m2,
-    }
-}
-
-// A session has 106 bytes, in the order of its fields.
-fn session_of(x: &[u8]) -> CSession {
-    let scbk = given::sixteen(given::from(x, 2));
-    let rnd_a = given::eight(given::from(x, 18));
-    let rnd_b = given::eight(given::from(x, 26));
-    let cuid = given::eight(given::from(x, 34));
-    let chain = given::sixteen(given::from(x, 90));
-    let k = scbk.bytes;
-    let a = rnd_a.bytes;
-    let b = rnd_b.bytes;
-    let u = cuid.bytes;
-    let keys = keys_of(given::from(x, 42));
-    let c = chain.bytes;
-    CSession {
-        end: given::byte(x, 0),
-        state: given::byte(x, 1),
-        scbk: k,
-        rnd_a: a,
-        rnd_b: b,
-        cuid: u,
-        keys,
-        chain: c,
-    }
-}
-
-fn numbers_like(w: &[u8], at: usize, s: CSession) -> usize {
-    let rnd_a = s.rnd_a;
-    let rnd_b = s.rnd_b;
-    let cuid = s.cuid;
-    let p = want::bytes(w, want::bytes(w, at, &rnd_a), &rnd_b);
-    want::bytes(w, p, &cuid)
-}
-
-fn session_like(w: &[u8], at: usize, s: CSession) -> usize {
-    let scbk = s.scbk;
-    let keys = s.keys;
-    let chain = s.chain;
-    let p = want::byte(w, want::byte(w, at, s.end), s.state);
-    let q = numbers_like(w, want::bytes(w, p, &scbk), s);
-    want::bytes(w, want::keys(w, q, keys), &chain)
-}
 
 fn stepped(w: &[u8], s: CStepped) -> usize {
     let answer = s.answer;
@@ -88,7 +33,7 @@ fn block_answer(w: &[u8], b: CBlockAnswer) -> usize {
 // The handshake at the controller's end: the session, then what the call is handed.
 fn controller(op: u8, all: &[u8], w: &[u8]) -> usize {
     let s = session_of(all);
-    let x = given::from(all, 106);
+    let x = given::from(all, stored::SIZE);
     match op {
         31 => stepped(w, ffi::malstrink_session_challenge(s, given::eight(x))),
         32 => {
@@ -110,7 +55,7 @@ fn controller(op: u8, all: &[u8], w: &[u8]) -> usize {
 
 fn reader(op: u8, all: &[u8], w: &[u8]) -> usize {
     let s = session_of(all);
-    let x = given::from(all, 106);
+    let x = given::from(all, stored::SIZE);
     if op == 36 {
         let b = given::eight(given::from(x, 8));
         stepped_block(
@@ -128,7 +73,7 @@ fn reader(op: u8, all: &[u8], w: &[u8]) -> usize {
 // What a session that is Secure does without a buffer.
 fn secure(op: u8, all: &[u8], w: &[u8]) -> usize {
     let s = session_of(all);
-    let x = given::from(all, 106);
+    let x = given::from(all, stored::SIZE);
     match op {
         38 => stepped_block(w, ffi::malstrink_session_mac(s, x)),
         39 => {
@@ -155,7 +100,7 @@ fn secure(op: u8, all: &[u8], w: &[u8]) -> usize {
 // The session, the buffer's room, bytes.
 pub(crate) fn on_session(op: u8, all: &[u8], w: &[u8], out: &mut [u8]) -> usize {
     let s = session_of(all);
-    let data = given::from(all, 110);
+    let data = given::from(all, stored::AFTER_ROOM);
     if op == 42 {
         want::ciphered(w, ffi::malstrink_session_seal_data(s, data, out))
     } else {
@@ -165,14 +110,15 @@ pub(crate) fn on_session(op: u8, all: &[u8], w: &[u8], out: &mut [u8]) -> usize 
 
 // The session, the buffer's room, what is to be sealed, its data.
 pub(crate) fn seal(all: &[u8], w: &[u8], out: &mut [u8]) -> usize {
+    let x = given::from(all, stored::AFTER_ROOM);
     let asked = CToSeal {
-        addr: given::byte(all, 110),
-        sqn: given::byte(all, 111),
-        from_reader: given::flag(all, 112),
-        encrypt: given::flag(all, 113),
-        code: given::byte(all, 114),
+        addr: given::byte(x, 0),
+        sqn: given::byte(x, 1),
+        from_reader: given::flag(x, 2),
+        encrypt: given::flag(x, 3),
+        code: given::byte(x, 4),
     };
-    let r = ffi::malstrink_seal(session_of(all), asked, given::from(all, 115), out);
+    let r = ffi::malstrink_seal(session_of(all), asked, given::from(x, 5), out);
     let answer = r.answer;
     let session = r.session;
     session_like(
@@ -184,7 +130,7 @@ pub(crate) fn seal(all: &[u8], w: &[u8], out: &mut [u8]) -> usize {
 
 // The session, the work buffer's room, a frame.
 pub(crate) fn unseal(all: &[u8], w: &[u8], work: &mut [u8]) -> usize {
-    let r = ffi::malstrink_unseal(session_of(all), given::from(all, 110), work);
+    let r = ffi::malstrink_unseal(session_of(all), given::from(all, stored::AFTER_ROOM), work);
     let answer = r.answer;
     let session = r.session;
     let p = want::flag(w, want::answer(w, 0, answer), r.in_work);

@@ -12,7 +12,7 @@ use Rattle.laws.proofs.BlockLists.{block-xorl, length-blocks, blocks-blocks}
 use Rattle.aes.specs.Cipher.{E}
 use Rattle.aes.proofs.Laws.{E-block}
 use Rattle.secure_cipher.specs.Pad.{padMac, padData, tail80}
-use Rattle.secure_cipher.specs.Mac.{keyFor, macRun, macOf}
+use Rattle.secure_cipher.specs.Mac.{keyFor, macRun, macOf, macCalls}
 use Rattle.secure_cipher.specs.Parts.{chained}
 use Rattle.secure_cipher.proofs.Turns.{blocksLeft, cut-none, left-all, left-next, left-none}
 use Rattle.secure_cipher.proofs.PadLaws.{padMac-by, length-padMac, bytes-padMac}
@@ -41,6 +41,11 @@ mac-block k₁ k₂ v l h₁ h₂ hv h = run-block k₁ k₂ v _ h₁ h₂ hv (b
 pub mac-steps : (k₁ k₂ v l : List ℕ) → macOf k₁ k₂ v l .steps ≡ (length l + 15) / 16
 unfolding macOf
 mac-steps k₁ k₂ v l = omega (arith, run-steps k₁ k₂ v (blocks (padMac l)), length-blocks (padMac l), length-padMac l)
+
+-- whatever the keys, the start and the bytes, the length alone tells the steps
+pub mac-counted : (k₁ k₂ v l : List ℕ) → macCalls (length l) ≡ macOf k₁ k₂ v l .steps
+unfolding macCalls
+mac-counted k₁ k₂ v l = sym (mac-steps k₁ k₂ v l)
 
 -- ---- the blocks before the last, in a loop over a list s: i of n are done
 

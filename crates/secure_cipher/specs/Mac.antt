@@ -1,6 +1,6 @@
 -- The chain MAC (docs/RULES.md, 6), each call of the cipher counted where it is made.
 -- Assumes nothing.
-use Prim.Native.Nat.{ℕ, suc}
+use Prim.Native.Nat.{ℕ, suc, _+_, _/_}
 use mathlib.Core.List.{List, [], _∷_}
 use Rattle.laws.specs.Bytes.{xorl}
 use Rattle.laws.specs.Blocks.{blocks}
@@ -27,6 +27,10 @@ macRun k₁ k₂ v (b ∷ bs) =
 
 unfoldable pub macOf : List ℕ → List ℕ → List ℕ → List ℕ → Mac
 macOf k₁ k₂ v l = macRun k₁ k₂ v (blocks (padMac l))
+
+-- the cipher calls for n bytes (docs/RULES.md, 9.2): n/16, rounded up; `MacLaws.mac-counted` says that these are the steps above
+unfoldable pub macCalls : ℕ → ℕ
+macCalls n = (n + 15) / 16
 
 -- ---- the code's answer, as the paper has it
 

@@ -10,6 +10,7 @@ pub use cipher::decrypt_data;
 pub use cipher::encrypt_data;
 pub use mac::ChainMac;
 pub use mac::cbc_mac;
+pub use mac::mac_calls;
 pub use pad::pad_data;
 pub use pad::pad_mac;
 pub use pad::unpad_data;

@@ -5,7 +5,7 @@ ghost use lib.ListN.{length, take, drop};
 ghost use Rattle.laws.specs.Blocks.{cut};
 ghost use Rattle.aes_field.specs.Sbox.{SBOX};
 ghost use Rattle.secure_cipher.specs.Pad.{padMac};
-ghost use Rattle.secure_cipher.specs.Mac.{macOf, macTold};
+ghost use Rattle.secure_cipher.specs.Mac.{macOf, macCalls, macTold};
 ghost use Rattle.secure_cipher.specs.Parts.{chained};
 use super::block;
 use super::pad;
@@ -64,4 +64,11 @@ pub fn cbc_mac(input: &[u8], icv: [u8; 16], s_mac1: [u8; 16], s_mac2: [u8; 16]) 
         full,
         calls: before + 1,
     }
+}
+
+// How often the cipher is called for the MAC of `len` bytes: for those who make a MAC through a call that does not tell.
+pub fn mac_calls(len: usize) -> usize
+    ensures { λ r. ⌜ r ≡ macCalls len ⌝ }
+{
+    if len == 0 { 0 } else { (len - 1) / 16 + 1 }
 }

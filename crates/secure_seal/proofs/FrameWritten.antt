@@ -8,6 +8,7 @@ use native.Mathlib.Omega.{arith}
 use lib.ListN.{length, take, getD, length-append, length-take}
 use lib.Seq.{length-take-le}
 use borrow.Rule.Slice.PartMut.{putMid}
+use Rattle.laws.specs.Answer.{Answer.given}
 use Rattle.laws.specs.Bytes.{compl}
 use Rattle.laws.specs.Over.{write}
 use Rattle.laws.proofs.Overwrite.{write-write, take-write}
@@ -16,9 +17,13 @@ use Rattle.packet_sums.specs.Crc.{crcOf, lowFirst}
 use Rattle.packet_build.specs.Build.{FrameBlock.scb, bodyBytes, tailBytes, frameBytes}
 use Rattle.packet_build.proofs.Sizes.{body-length}
 use Rattle.secure_keys.specs.declared.crypto.SessionKeys.{SessionKeys}
-use Rattle.secure_cipher.specs.Mac.{Mac, macOf}
+use Rattle.refusal.specs.declared.LengthAnswer.{LengthAnswer}
+use Rattle.secure_cipher.specs.Mac.{macCalls}
 use Rattle.secure_cipher.proofs.CbcLaws.{steps-hide}
-use Rattle.secure_cipher.proofs.MacLaws.{mac-steps}
+use Rattle.secure_cipher.proofs.MacLaws.{mac-counted}
+use Rattle.secure_session.specs.Channel.{sessionMac}
+use Rattle.secure_session.specs.Session.{sendFrom, sent}
+use Rattle.secure_session.specs.declared.session.Session.{Session}
 use Rattle.secure_seal.specs.Seal.{typeFor, dataLenFor, dataOf, Asked, totalOf, partsWith, bodyWith, sealedFrame}
 use Rattle.secure_seal.specs.Parts.{Put}
 use Rattle.secure_seal.proofs.Places.{part-write}
@@ -44,9 +49,15 @@ end-written o f y c z end n ey ec ez =
 
 -- ---- the whole: y is the data, m the MAC
 
-module _ (k : SessionKeys) (v : List ℕ) (q : Asked) (o o₁ y : List ℕ) (t total : ℕ) (et : total ≡ totalOf q) (room : total ≤ length o)
-    (ey : y ≡ sealedData k v q) (ly : length y ≡ dataLenFor (q .encrypt) (q .payload))
+module _ (s : Session) (q : Asked) (o o₁ y : List ℕ) (t total : ℕ) (et : total ≡ totalOf q) (room : total ≤ length o)
+    (ey : y ≡ sealedData (s .keys) (sendFrom s) q) (ly : length y ≡ dataLenFor (q .encrypt) (q .payload))
     (e₁ : o₁ ≡ write o 0 (bodyBytes (q .addr) (q .sqn, true, true) (scb t []) (q .code) [] total)) (ek : t ≡ typeFor (q .direction) (q .encrypt)) where
+  abbrev k : SessionKeys
+  k = s .keys
+
+  abbrev v : List ℕ
+  v = sendFrom s
+
   length-body : length (bodyWith q (sealedData k v q)) ≡ total - 6
   length-body =
       omega (arith, body-length (q .addr) (q .sqn, true, true) (scb (typeFor (q .direction) (q .encrypt)) []) (q .code) (sealedData k v q) (totalOf q), ap length (sym ey))
@@ -64,13 +75,12 @@ module _ (k : SessionKeys) (v : List ℕ) (q : Asked) (o o₁ y : List ℕ) (t t
   body-seen : take (total - 6) (putMid 8 (total - 6 - 8) o₁ y) ≡ bodyWith q (sealedData k v q)
   body-seen = ap (take (total - 6)) body-written ∙ take-write o (total - 6) (bodyWith q (sealedData k v q)) (sym length-body)
 
-  module _ (f o₃ : List ℕ) (n h : ℕ) (lf : length f ≡ 16) (eh : h ≡ dataOf (q .encrypt) (k .«s_enc») v (q .payload) .steps)
-      (em : _≡_ {A = Mac} (record { full = f; steps = n }) (macOf (k .«s_mac1») (k .«s_mac2») v (take (total - 6) (putMid 8 (total - 6 - 8) o₁ y))))
+  -- the MAC f that was made of it, by h + n calls in all, and the session s₂ that is left
+  module _ (f o₃ : List ℕ) (s₂ : Session) (n h : ℕ) (lf : length f ≡ 16) (eh : h ≡ dataOf (q .encrypt) (k .«s_enc») v (q .payload) .steps) (en : n ≡ macCalls (total - 6))
+      (em : f ≡ sessionMac s v (take (total - 6) (putMid 8 (total - 6 - 8) o₁ y)) .full)
+      (es : s₂ ≡ sent s (sessionMac s v (take (total - 6) (putMid 8 (total - 6 - 8) o₁ y)) .full))
       (e₃ : o₃ ≡ write (write (putMid 8 (total - 6 - 8) o₁ y) (total - 6) (take 4 f)) (total - 6 + 4)
       (tailBytes true (take (total - 6 + 4) (write (putMid 8 (total - 6 - 8) o₁ y) (total - 6) (take 4 f))))) where
-    mac-made : _≡_ {A = Mac} (record { full = f; steps = n }) (macOf (k .«s_mac1») (k .«s_mac2») v (bodyWith q (sealedData k v q)))
-    mac-made = em ∙ ap (macOf (k .«s_mac1») (k .«s_mac2») v) body-seen
-
     signed : write (putMid 8 (total - 6 - 8) o₁ y) (total - 6) (take 4 f) ≡ write o 0 (bodyWith q (sealedData k v q) ++ take 4 f)
     signed =
         ap (λ (x : List ℕ). write x (total - 6) (take 4 f)) body-written
@@ -85,14 +95,18 @@ module _ (k : SessionKeys) (v : List ℕ) (q : Asked) (o o₁ y : List ℕ) (t t
         ∙ ap (λ (x : List ℕ). write (write o 0 b) (total - 6 + 4) (tailBytes true x)) (take-write o (total - 6 + 4) b (sym l))
         ∙ write-write o 0 b (total - 6 + 4) (tailBytes true b) (omega arith) (omega arith)
 
-    pub frame-put : Put (sealedFrame k v q) o o₃ (record { full = f; calls = h + n })
+    counted-mac : n ≡ sessionMac s v (bodyWith q (sealedData k v q)) .steps
+    counted-mac = en ∙ ap macCalls (sym length-body) ∙ mac-counted (k .«s_mac1») (k .«s_mac2») v (bodyWith q (sealedData k v q))
+
+    pub frame-put : Put s q o o₃ (record { answer = LengthAnswer.Of total; calls = h + n; session = s₂ })
     unfolding sealedFrame
     frame-put =
-        let e : f ≡ macOf (k .«s_mac1») (k .«s_mac2») v (bodyWith q (sealedData k v q)) .full = ap (λ (m : Mac). m .full) mac-made in
+        let e : f ≡ sessionMac s v (bodyWith q (sealedData k v q)) .full = em ∙ ap (λ (l : List ℕ). sessionMac s v l .full) body-seen in
         record {
+          told = ap given et;
           here = ended ∙ ap (λ (x : List ℕ). write o 0 (frameBytes (partsWith q (sealedData k v q) (take 4 x)) (totalOf q))) e;
-          mac = e;
-          counted = ap₂ (λ (x z : ℕ). x + z) eh (ap (λ (m : Mac). m .steps) mac-made);
+          moved = es ∙ ap (λ (l : List ℕ). sent s (sessionMac s v l .full)) body-seen;
+          counted = ap₂ (λ (x z : ℕ). x + z) eh counted-mac;
         }
 
 -- the calls are few
@@ -101,7 +115,6 @@ unfolding dataOf
 data-steps false k v x = omega arith
 data-steps true k v x = omega (arith, steps-hide k (compl v) x)
 
-pub mac-few : (k₁ k₂ v l : List ℕ) (t : ℕ) {n : ℕ} → n ≡ macOf k₁ k₂ v (take t l) .steps → n ≤ t + 1
-mac-few k₁ k₂ v l t e =
-    let h : length (take t l) ≤ t = simp length-take (omega arith) in
-    omega (arith, mac-steps k₁ k₂ v (take t l))
+pub mac-few : (n : ℕ) → macCalls n ≤ n + 1
+unfolding macCalls
+mac-few n = omega arith

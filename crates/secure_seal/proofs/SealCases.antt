@@ -11,8 +11,7 @@ use Rattle.laws.proofs.Answers.{Holds, holds-refuse, holds-given}
 use Rattle.refusal.specs.Paper.{refusalOf}
 use Rattle.refusal.specs.declared.Refusal.{Refusal}
 use Rattle.refusal.specs.declared.Refusal.the-variants.{WrongState}
-use Rattle.secure_cipher.specs.declared.mac.ChainMac.{ChainMac}
-use Rattle.secure_session.specs.Session.{isSecure, sendFrom, sent}
+use Rattle.secure_session.specs.Session.{isSecure, sendFrom}
 use Rattle.secure_session.specs.declared.session.Session.{Session}
 use Rattle.secure_seal.specs.Seal.{Asked, totalOf, sealedFrame, frameTest, sealing, sealRun, SealDone, afterSeal, sealedOn, sealOf, sealTold}
 use Rattle.secure_seal.specs.Parts.{Put, refusedWith}
@@ -82,9 +81,7 @@ module _ (s : Session) (q : Asked) (o : List ℕ) (b : Bool) (eb : b ≡ isSecur
     unfolding sealing afterSeal
     told-refused e h er = ap (λ (x : Sealed). sealTold x o) er ∙ ap (picked s q o) (sym h) ∙ tested
 
-    pub told-done : (t : ℕ) (m : ChainMac) (v o₂ : List ℕ) (s₂ : Session) → a ≡ given t → v ≡ sendFrom s → Put (sealedFrame (s .keys) v q) o o₂ m → s₂ ≡ sent s (m .full)
-        → sealDone (given t) s₂ o₂ (m .calls) ≡ sealOf s q o
+    pub told-done : (t : ℕ) {r : Sealed} {o₂ : List ℕ} → a ≡ given t → Put s q o o₂ r → sealTold r o₂ ≡ sealOf s q o
     unfolding sealing afterSeal
-    told-done t m v o₂ s₂ h ev p es =
-        let f : Put (sealedFrame (s .keys) (sendFrom s) q) o o₂ m = rw ev at p in
-        (λ i. sealDone (given t) ((es ∙ ap (sent s) (f .mac)) i) (f .here i) (f .counted i)) ∙ ap (picked s q o) (sym h) ∙ tested
+    told-done t h p =
+        (λ i. sealDone ((p .told ∙ ap given (tests-passed q (length o) t h ea .total)) i) (p .moved i) (p .here i) (p .counted i)) ∙ ap (picked s q o) (sym h) ∙ tested

@@ -8,15 +8,14 @@ ghost use Rattle.laws.specs.Over.{write};
 ghost use Rattle.packet_build.specs.Build.{FrameBlock.scb, bodyBytes, tailBytes};
 ghost use Rattle.packet_head.specs.Block.{typeOf};
 ghost use Rattle.refusal.specs.Reading.{lengthAnswer};
-ghost use Rattle.secure_seal.specs.Seal.{typeFor, dataLenFor, dataOf, askedOf, sealedFrame, frameTest, sealOf, sealTold};
+ghost use Rattle.secure_session.specs.Session.{isSecure, sendFrom};
+ghost use Rattle.secure_seal.specs.Seal.{typeFor, dataLenFor, dataOf, askedOf, frameTest, sealOf, sealTold};
 ghost use Rattle.secure_seal.specs.Parts.{Put, refusedWith};
 use packet_head::Address;
 use packet_head::ScsType;
 use packet_head::Sqn;
 use refusal::LengthAnswer;
 use refusal::Refusal;
-use secure_cipher::ChainMac;
-use secure_keys::SessionKeys;
 use secure_session::Session;
 
 // Who sends, as the caller names it.
@@ -115,13 +114,12 @@ fn put_head(addr: Address, sqn: Sqn, kind: ScsType, code: u8, total: usize, out:
 }
 
 // The data over the whole of out; how often the cipher was called for it.
-fn put_data(s_enc: [u8; 16], start: [u8; 16], encrypt: bool, data: &[u8], out: &mut [u8]) -> usize
-    requires { ⌜ length (now out) ≡ dataLenFor encrypt (now «data») ⌝ }
-    ensures { λ r. ⌜ (now (out .exit) ≡ dataOf encrypt «s_enc» start (now («data» .entry)) .bytes) × (r ≡ dataOf encrypt «s_enc» start (now («data» .entry)) .steps) ⌝ }
+fn put_data(session: Session, encrypt: bool, data: &[u8], out: &mut [u8]) -> usize
+    requires { ⌜ (isSecure (session .state) ≡ true) × (length (now out) ≡ dataLenFor encrypt (now «data»)) ⌝ }
+    ensures { λ r. ⌜ (now (out .exit) ≡ dataOf encrypt (session .keys .«s_enc») (sendFrom session) (now («data» .entry)) .bytes) × (r ≡ dataOf encrypt (session .keys .«s_enc») (sendFrom session) (now («data» .entry)) .steps) ⌝ }
 {
     if encrypt {
-        let iv = secure_cipher::complement_icv(start);
-        let hidden = secure_cipher::encrypt_data(s_enc, iv, data, out);
+        let hidden = session.seal_data(data, out);
         hidden.calls
     } else {
         copy(data, out);
@@ -142,10 +140,11 @@ fn put_end(full: [u8; 16], end: usize, out: &mut [u8])
     copy(&crc, &mut out[crc_at..after]);
 }
 
-// The frame at the front of out, from keys and a start value: its full MAC, and how often the cipher was called for all of it.
+// The frame of total bytes at the front of out; how often the cipher was called for all of it, and the session with its chain moved by
+// the frame's MAC.
 fn put_frame(
-    keys: SessionKeys,
-    start: [u8; 16],
+    session: Session,
+    total: usize,
     addr: Address,
     sqn: Sqn,
     direction: Direction,
@@ -153,23 +152,21 @@ fn put_frame(
     code: u8,
     data: &[u8],
     out: &mut [u8],
-) -> ChainMac
-    requires { ⌜ (sqn .0 ≤ 3) × (14 + dataLenFor encrypt (now «data») ≤ 65535) × (14 + dataLenFor encrypt (now «data») ≤ length (now out)) ⌝ }
-    ensures { λ r. ⌜ Put (sealedFrame keys start (askedOf addr sqn direction encrypt code (now («data» .entry)))) (now (out .entry)) (now (out .exit)) r ⌝ }
+) -> Sealed
+    requires { ⌜ (isSecure (session .state) ≡ true) × (sqn .0 ≤ 3) × (total ≡ 14 + dataLenFor encrypt (now «data»)) × (total ≤ 65535) × (total ≤ length (now out)) ⌝ }
+    ensures { λ r. ⌜ Put session (askedOf addr sqn direction encrypt code (now («data» .entry))) (now (out .entry)) (now (out .exit)) r ⌝ }
 {
-    let total = total_len(encrypt, data);
     let end = total - 6;
     put_head(addr, sqn, direction.scs_for(encrypt), code, total, out);
-    let s_enc = keys.s_enc;
-    let hidden = put_data(s_enc, start, encrypt, data, &mut out[8..end]);
-    let s_mac1 = keys.s_mac1;
-    let s_mac2 = keys.s_mac2;
-    let mac = secure_cipher::cbc_mac(&out[..end], start, s_mac1, s_mac2);
-    let full = mac.full;
+    let hidden = put_data(session, encrypt, data, &mut out[8..end]);
+    let made = session.mac(&out[..end]);
+    let full = made.block;
     put_end(full, end, out);
-    ChainMac {
-        full,
-        calls: hidden + mac.calls,
+    let next = made.session;
+    Sealed {
+        answer: LengthAnswer::Of(total),
+        calls: hidden + secure_cipher::mac_calls(end),
+        session: next,
     }
 }
 
@@ -197,22 +194,21 @@ pub fn seal(
 ) -> Sealed
     ensures { λ r. ⌜ sealTold r (now (out .exit)) ≡ sealOf session (askedOf addr sqn direction encrypt code (now («data» .entry))) (now (out .entry)) ⌝ }
 {
-    let state = session.state;
-    if !secure_session::is_secure(state) {
+    if !session.is_secure() {
         return refused(session, Refusal::WrongState);
     }
     match test(sqn, total_len(encrypt, data), out.len()) {
         LengthAnswer::Refused(e) => refused(session, e),
-        LengthAnswer::Of(total) => {
-            let keys = session.keys;
-            let start = session.send_from();
-            let mac = put_frame(keys, start, addr, sqn, direction, encrypt, code, data, out);
-            let full = mac.full;
-            Sealed {
-                answer: LengthAnswer::Of(total),
-                calls: mac.calls,
-                session: session.sent(full),
-            }
-        }
+        LengthAnswer::Of(total) => put_frame(
+            session,
+            total,
+            addr,
+            sqn,
+            direction,
+            encrypt,
+            code,
+            data,
+            out,
+        ),
     }
 }

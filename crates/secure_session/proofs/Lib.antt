@@ -3,3 +3,5 @@ mod ChannelCases
 pub mod Settled
 pub mod SessionLaws
 pub mod Shaken
+pub mod DoorLaws
+pub mod SecureLaws

@@ -3,9 +3,19 @@
 use mathlib.Core.List.{List}
 use mathlib.Core.Path.{_≡_, refl}
 use Prim.Native.Nat.{ℕ}
+use Rattle.laws.specs.Blocks.{Block}
 use Rattle.secure_session.specs.Session.{sendFrom, recvFrom, sent, received, secured}
 use Rattle.secure_session.specs.declared.session.Session.{Session}
 use Rattle.secure_session.specs.declared.session.State.the-variants.{Secure}
+
+-- what the field holds is what a MAC starts from
+pub send-block : (s : Session) → Block (s .chain) → Block (sendFrom s)
+unfolding sendFrom
+send-block s h = h
+
+pub recv-block : (s : Session) → Block (s .chain) → Block (recvFrom s)
+unfolding recvFrom
+recv-block s h = h
 
 module _ (s : Session) (m : List ℕ) where
   -- after a MAC was made

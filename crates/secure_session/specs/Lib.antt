@@ -2,3 +2,4 @@ pub mod Session
 pub mod Handshake
 pub mod Apart
 pub mod Channel
+pub mod Door

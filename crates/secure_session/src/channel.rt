@@ -8,7 +8,6 @@ use super::session;
 use super::session::BlockAnswer;
 use super::session::KeysAnswer;
 use super::session::Session;
-use super::session::State;
 use super::session::Stepped;
 use super::session::SteppedBlock;
 use refusal::LengthAnswer;
@@ -16,29 +15,31 @@ use refusal::Outcome;
 use refusal::Refusal;
 use secure_cipher::Ciphered;
 
-pub fn is_secure(state: State) -> bool
-    ensures { λ r. ⌜ r ≡ isSecure state ⌝ }
-{
-    session::state_number(state) == 3
-}
-
 impl Session {
+    // Whether it is Secure, at either end.
+    pub fn is_secure(self) -> bool
+        ensures { λ r. ⌜ r ≡ isSecure (self .state) ⌝ }
+    {
+        let state = self.state;
+        session::state_number(state) == 3
+    }
+
     // Where a MAC that is made starts.
-    pub fn send_from(self) -> [u8; 16]
+    fn send_from(self) -> [u8; 16]
         ensures { λ r. ⌜ r ≡ sendFrom self ⌝ }
     {
         self.chain
     }
 
     // Where a MAC that is checked starts.
-    pub fn recv_from(self) -> [u8; 16]
+    fn recv_from(self) -> [u8; 16]
         ensures { λ r. ⌜ r ≡ recvFrom self ⌝ }
     {
         self.chain
     }
 
     // After a MAC was made.
-    pub fn sent(self, full: [u8; 16]) -> Session
+    fn sent(self, full: [u8; 16]) -> Session
         ensures { λ r. ⌜ r ≡ sent self full ⌝ }
     {
         let mut s = self;
@@ -47,7 +48,7 @@ impl Session {
     }
 
     // After a MAC was found right.
-    pub fn received(self, full: [u8; 16]) -> Session
+    fn received(self, full: [u8; 16]) -> Session
         ensures { λ r. ⌜ r ≡ received self full ⌝ }
     {
         let mut s = self;
@@ -71,8 +72,7 @@ impl Session {
         ensures { λ r. ⌜ steppedBlock r ≡ makeMac self (now (bytes .entry)) ⌝ }
         ensures { λ r. ⌜ r .block ≡ blockBeside (makeMac self (now (bytes .entry)) .answer) ⌝ }
     {
-        let state = self.state;
-        if is_secure(state) {
+        if self.is_secure() {
             let start = self.send_from();
             let full = self.full_mac(start, bytes);
             let next = self.sent(full);
@@ -94,8 +94,7 @@ impl Session {
     pub fn verify(self, bytes: &[u8], wire_mac: [u8; 4]) -> Stepped
         ensures { λ r. ⌜ stepped r ≡ verifyOf self (now (bytes .entry)) «wire_mac» ⌝ }
     {
-        let state = self.state;
-        if is_secure(state) {
+        if self.is_secure() {
             let start = self.recv_from();
             let full = self.full_mac(start, bytes);
             if secure_keys::same(&full[..4], &wire_mac) {
@@ -123,8 +122,7 @@ impl Session {
         ensures { λ r. ⌜ keysAnswer r ≡ keysOf self ⌝ }
         ensures { λ r. ⌜ r .keys ≡ keysBeside (keysOf self) ⌝ }
     {
-        let state = self.state;
-        if is_secure(state) {
+        if self.is_secure() {
             let keys = self.keys;
             KeysAnswer {
                 outcome: Outcome::Done,
@@ -144,8 +142,7 @@ impl Session {
         ensures { λ r. ⌜ blockAnswer r ≡ lastOtherMacOf self ⌝ }
         ensures { λ r. ⌜ r .block ≡ blockBeside (lastOtherMacOf self) ⌝ }
     {
-        let state = self.state;
-        if is_secure(state) {
+        if self.is_secure() {
             let start = self.send_from();
             BlockAnswer {
                 outcome: Outcome::Done,
@@ -163,8 +160,7 @@ impl Session {
     pub fn seal_data(self, data: &[u8], out: &mut [u8]) -> Ciphered
         ensures { λ r. ⌜ cipherTold r (now (out .exit)) ≡ sealDataOf self (now («data» .entry)) (now (out .entry)) ⌝ }
     {
-        let state = self.state;
-        if is_secure(state) {
+        if self.is_secure() {
             let k = self.keys;
             let s_enc = k.s_enc;
             let iv = secure_cipher::complement_icv(self.send_from());
@@ -181,8 +177,7 @@ impl Session {
     pub fn open_data(self, ct: &[u8], out: &mut [u8]) -> Ciphered
         ensures { λ r. ⌜ cipherTold r (now (out .exit)) ≡ openDataOf self (now (ct .entry)) (now (out .entry)) ⌝ }
     {
-        let state = self.state;
-        if is_secure(state) {
+        if self.is_secure() {
             let k = self.keys;
             let s_enc = k.s_enc;
             let iv = secure_cipher::complement_icv(self.recv_from());

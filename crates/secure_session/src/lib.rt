@@ -1,8 +1,9 @@
 // One session of the channel, at either end.
 mod channel;
+mod door;
 mod session;
 
-pub use channel::is_secure;
+pub use door::SessionFields;
 pub use session::BlockAnswer;
 pub use session::End;
 pub use session::KeysAnswer;

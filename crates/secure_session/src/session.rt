@@ -21,15 +21,16 @@ pub enum State {
     Secure,
 }
 
+// Its fields are closed: from outside a session is made and moved by its calls alone.
 pub struct Session {
-    pub end: End,
-    pub state: State,
-    pub scbk: [u8; 16],
-    pub rnd_a: [u8; 8],
-    pub rnd_b: [u8; 8],
-    pub cuid: [u8; 8],
-    pub keys: SessionKeys,
-    pub chain: [u8; 16],
+    pub(crate) end: End,
+    pub(crate) state: State,
+    pub(crate) scbk: [u8; 16],
+    pub(crate) rnd_a: [u8; 8],
+    pub(crate) rnd_b: [u8; 8],
+    pub(crate) cuid: [u8; 8],
+    pub(crate) keys: SessionKeys,
+    pub(crate) chain: [u8; 16],
 }
 
 // A call that answers yes or a refusal, and hands the session back.

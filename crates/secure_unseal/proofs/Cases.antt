@@ -5,23 +5,31 @@ use mathlib.Core.List.{List, [], _∷_}
 use mathlib.Core.Option.{none, some}
 use mathlib.Core.Path.{_≡_, refl, sym, ap, ap₂, _∙_}
 use Prim.Native.Nat.{ℕ, _+_, _-_, _≤_}
-use native.Mathlib.Nat.{add-sub-cancel-left}
+use native.Mathlib.Nat.{add-zero, add-sub-cancel-left}
 use lib.Dec.{ltb}
-use lib.ListN.{length, take, drop}
+use native.Mathlib.Omega.{arith}
+use lib.ListN.{length, take, drop, getD, length-drop}
+use lib.Seq.{getD-drop}
 use Rattle.laws.specs.Answer.{Answer, Answer.given, Answer.refused}
-use Rattle.laws.specs.Bytes.{compl, eql}
+use Rattle.laws.specs.Bytes.{compl}
+use Rattle.laws.proofs.Listed.{front-listed}
 use Rattle.laws.proofs.Lists.{part-length}
 use Rattle.packet_head.specs.Block.{hasMac, isEncrypted}
 use Rattle.packet_parse.specs.Frame.{Fields, typeIn, macStart, parseOf}
+use Rattle.refusal.specs.Paper.{refusalOf, numberOf, valuesOf}
+use Rattle.refusal.specs.declared.Outcome.{Outcome}
 use Rattle.refusal.specs.declared.Refusal.{Refusal}
 use Rattle.secure_cipher.specs.Cbc.{Done, Opening, cipherStop, decryptOf, openedInto, wiped}
-use Rattle.secure_cipher.specs.Mac.{Mac, macOf}
 use Rattle.secure_keys.specs.declared.crypto.SessionKeys.{SessionKeys}
 use Rattle.secure_session.specs.Session.{isSecure, recvFrom, received}
+use Rattle.secure_session.specs.Handshake.{stepped}
+use Rattle.secure_session.specs.Channel.{verifyOf, openDataOf}
 use Rattle.secure_session.specs.declared.session.Session.{Session}
-use Rattle.secure_unseal.specs.Unseal.{Checked, UnsealRun, unsealStop, check, openData, unsealPlain, unsealOpened, unsealHidden, unsealParsed, unsealRun, unsealOf, afterUnseal, unsealedOn}
-use Rattle.secure_unseal.specs.Parts.{ran, stopped}
-use Rattle.secure_unseal.specs.declared.frame.Run.{Run}
+use Rattle.secure_session.specs.declared.session.Stepped.{Stepped}
+use Rattle.secure_session.proofs.SecureLaws.{verify-right, verify-wrong-mac}
+use Rattle.secure_unseal.specs.Unseal.{Checked, Place, UnsealRun, unsealStop, check, openData, unsealPlain, unsealOpened, unsealHidden, unsealParsed, unsealRun, unsealOf, afterUnseal, unsealedOn, unsealTold}
+use Rattle.secure_unseal.specs.Parts.{stopped}
+use Rattle.secure_unseal.specs.declared.frame.Unsealed.{Unsealed}
 
 -- ---- a choice whose test is known
 
@@ -32,29 +40,52 @@ module _ {A : Type 0} (x y : A) {b : Bool} where
   pub no : b ≡ false → y ≡ cond b x y
   no h = rw h
 
--- ---- a refusal
+-- ---- a refusal and a success, put on a session
 
-pub stops : {r : Run} {e : Refusal} {n : ℕ} {w : List ℕ} {x : UnsealRun} → r ≡ stopped e n → ran (stopped e n) w ≡ x → ran r w ≡ x
-stops {w = w} h k = ap (λ (y : Run). ran y w) h ∙ k
+pub stops : {s : Session} {r : Unsealed} {e : Refusal} {n : ℕ} {w : List ℕ} {x : UnsealRun} → r ≡ stopped s e n
+    → record { answer = refusalOf e; moved = none; work = w; steps = n } ≡ x → unsealTold r w ≡ unsealedOn s x
+unfolding afterUnseal
+stops {s} {w = w} h k = ap (λ (y : Unsealed). unsealTold y w) h ∙ ap (unsealedOn s) k
+
+pub moves : (s : Session) (m : List ℕ) {t : Session} {p : Place} {w : List ℕ} {n : ℕ} {x : UnsealRun} → t ≡ received s m
+    → record { answer = given p; moved = some m; work = w; steps = n } ≡ x → record { answer = given p; session = t; work = w; steps = n } ≡ unsealedOn s x
+unfolding afterUnseal
+moves s m {p = p} {w = w} {n = n} h k = ap (λ (y : Session). record { answer = given p; session = y; work = w; steps = n }) h ∙ ap (unsealedOn s) k
 
 -- ---- the MAC's check
 
-abbrev checkedWith : Bool → Mac → Checked
-checkedWith b m = record { right = b; full = m .full; steps = m .steps }
+pub four-listed : (f : List ℕ) (at : ℕ) → at + 4 ≤ length f → getD f at 0 ∷ getD f (at + 1) 0 ∷ getD f (at + 2) 0 ∷ getD f (at + 3) 0 ∷ [] ≡ take 4 (drop at f)
+four-listed f at h =
+    let z : getD f at 0 ≡ getD (drop at f) 0 0 = ap (λ (j : ℕ). getD f j 0) (sym (add-zero at)) ∙ sym (getD-drop at f 0 0) in
+    (λ i. z i ∷ sym (getD-drop at f 1 0) i ∷ sym (getD-drop at f 2 0) i ∷ sym (getD-drop at f 3 0) i ∷ [])
+    ∙ front-listed (drop at f) 4 (omega (arith, length-drop at f))
 
-pub check-made : (k : SessionKeys) (v f : List ℕ) (at : ℕ) {m : Mac} {b : Bool} → m ≡ macOf (k .«s_mac1») (k .«s_mac2») v (take at f)
-    → b ≡ eql (take 4 (m .full)) (take 4 (drop at f)) → checkedWith b m ≡ check k v f at
-unfolding check
-check-made k v f at {m} {b} em eb = ap (λ (x : Bool). checkedWith x m) eb ∙ ap (λ (x : Mac). checkedWith (eql (take 4 (x .full)) (take 4 (drop at f))) x) em
+-- what `verify` came to
+module _ (s : Session) (secure : isSecure (s .state) ≡ true) (f : List ℕ) (at : ℕ) (r : Stepped) (e : stepped r ≡ verifyOf s (take at f) (take 4 (drop at f))) where
+  pub check-passed : r .outcome ≡ Outcome.Done → (check (s .keys) (recvFrom s) f at .right ≡ true) × (r .session ≡ received s (check (s .keys) (recvFrom s) f at .full))
+  unfolding check
+  check-passed h = verify-right s secure (take at f) (take 4 (drop at f)) r e h
 
-pub same-made : (m f : List ℕ) (at : ℕ) {b : Bool} → b ≡ eql (take 4 m) (take (at + 4 - at) (drop at f)) → b ≡ eql (take 4 m) (take 4 (drop at f))
-same-made m f at e = e ∙ ap (λ (n : ℕ). eql (take 4 m) (take n (drop at f))) (add-sub-cancel-left at 4)
+  pub check-failed : (x : Refusal) → r .outcome ≡ Outcome.Refused x → (check (s .keys) (recvFrom s) f at .right ≡ false) × (numberOf x ≡ 15) × (valuesOf x ≡ [])
+  unfolding check
+  check-failed x h = verify-wrong-mac s secure (take at f) (take 4 (drop at f)) r x e h
+
+-- types 15 and 16: n is what the check c took
+module _ (c : Checked) (p : Fields) (w : List ℕ) {n : ℕ} (en : n ≡ c .steps) where
+  pub plain-right : c .right ≡ true
+      → record { answer = given (record { inWork = false; start = p .dataStart; len = p .dataLen }); moved = some (c .full); work = w; steps = n } ≡ unsealPlain c p w
+  unfolding unsealPlain
+  plain-right r =
+      ap (λ (m : ℕ). record { answer = given (record { inWork = false; start = p .dataStart; len = p .dataLen }); moved = some (c .full); work = w; steps = m }) en ∙ yes _ _ r
+
+  pub plain-wrong : (m : ℕ) (vs : List ℕ) → m ≡ 15 → vs ≡ [] → c .right ≡ false → record { answer = refused m vs; moved = none; work = w; steps = n } ≡ unsealPlain c p w
+  unfolding unsealPlain
+  plain-wrong m vs em ev r = (λ i. record { answer = refused (em i) (ev i); moved = none; work = w; steps = en i }) ∙ no _ _ r
 
 -- ---- the data's opening
 
-pub open-made : (k v iv f w : List ℕ) (at n : ℕ) {d : Done} → iv ≡ compl v → d ≡ decryptOf k iv (take (at + n - at) (drop at f)) w
-    → d ≡ decryptOf k (compl v) (take n (drop at f)) w
-open-made k v iv f w at n ev e = e ∙ ap₂ (λ (x : List ℕ) (m : ℕ). decryptOf k x (take m (drop at f)) w) ev (add-sub-cancel-left at n)
+pub open-made : (s : Session) (f w : List ℕ) (at n : ℕ) {d : Done} → d ≡ openDataOf s (take (at + n - at) (drop at f)) w → d ≡ openDataOf s (take n (drop at f)) w
+open-made s f w at n e = e ∙ ap (λ (m : ℕ). openDataOf s (take m (drop at f)) w) (add-sub-cancel-left at n)
 
 -- ---- types 17 and 18
 
@@ -95,24 +126,25 @@ hidden-from k v f p c w h e =
     let m : length (take n (drop (p .dataStart) f)) ≡ n = part-length f (p .dataStart) n h in
     ap (finished c n w) (e ∙ ap (λ (j : ℕ). openedUnless (ltb (length w) j) j o w) m) ∙ hidden-finish c n w (ltb (length w) n) o
 
--- from what was deciphered, and from what the MAC's check x came to
+-- from what was deciphered, and from what the MAC's check c came to, by n steps
 module _ (k : SessionKeys) (v f : List ℕ) (p : Fields) (w : List ℕ) {a : Answer ℕ} {out : List ℕ} {s : ℕ} (fit : p .dataStart + p .dataLen ≤ length f)
-    (e : record { answer = a; out = out; steps = s } ≡ decryptOf (k .«s_enc») (compl v) (take (p .dataLen) (drop (p .dataStart) f)) w) where
-  pub hidden-no : (c : Checked) (m : ℕ) (vs : List ℕ) → a ≡ refused m vs
+    (e : record { answer = a; out = out; steps = s } ≡ decryptOf (k .«s_enc») (compl v) (take (p .dataLen) (drop (p .dataStart) f)) w) (c : Checked) where
+  pub hidden-no : (m : ℕ) (vs : List ℕ) → a ≡ refused m vs
       → record { answer = refused m vs; moved = none; work = out; steps = s } ≡ unsealHidden c (openData k v f p) p w
-  hidden-no c m vs h = ap (λ (b : Answer ℕ). finish c (p .dataLen) w b out s) (sym h) ∙ hidden-from k v f p c w fit e
+  hidden-no m vs h = ap (λ (b : Answer ℕ). finish c (p .dataLen) w b out s) (sym h) ∙ hidden-from k v f p c w fit e
 
-  module _ (l : ℕ) (h : a ≡ given l) (x : Checked) {c : Checked} (hc : x ≡ c) where
-    hidden-checked : finish x (p .dataLen) w (given l) out s ≡ unsealHidden c (openData k v f p) p w
-    hidden-checked = ap₂ (λ (y : Checked) (b : Answer ℕ). finish y (p .dataLen) w b out s) hc (sym h) ∙ hidden-from k v f p c w fit e
+  module _ (l : ℕ) (h : a ≡ given l) {n : ℕ} (en : n ≡ c .steps) where
+    hidden-checked : finish c (p .dataLen) w (given l) out s ≡ unsealHidden c (openData k v f p) p w
+    hidden-checked = ap (λ (b : Answer ℕ). finish c (p .dataLen) w b out s) (sym h) ∙ hidden-from k v f p c w fit e
 
-    pub hidden-right : x .right ≡ true
-        → record { answer = given (record { inWork = true; start = 0; len = l }); moved = some (x .full); work = out; steps = s + x .steps } ≡ unsealHidden c (openData k v f p) p w
-    hidden-right r = yes _ _ r ∙ hidden-checked
+    pub hidden-right : c .right ≡ true
+        → record { answer = given (record { inWork = true; start = 0; len = l }); moved = some (c .full); work = out; steps = s + n } ≡ unsealHidden c (openData k v f p) p w
+    hidden-right r =
+        ap (λ (j : ℕ). record { answer = given (record { inWork = true; start = 0; len = l }); moved = some (c .full); work = out; steps = s + j }) en ∙ yes _ _ r ∙ hidden-checked
 
-    pub hidden-wrong : (z : List ℕ) → z ≡ wiped (p .dataLen) w → x .right ≡ false
-        → record { answer = refused 15 []; moved = none; work = z; steps = s + x .steps } ≡ unsealHidden c (openData k v f p) p w
-    hidden-wrong z ez r = ap (λ (y : List ℕ). record { answer = refused 15 []; moved = none; work = y; steps = s + x .steps }) ez ∙ no _ _ r ∙ hidden-checked
+    pub hidden-wrong : (m : ℕ) (vs z : List ℕ) → m ≡ 15 → vs ≡ [] → z ≡ wiped (p .dataLen) w → c .right ≡ false
+        → record { answer = refused m vs; moved = none; work = z; steps = s + n } ≡ unsealHidden c (openData k v f p) p w
+    hidden-wrong m vs z em ev ez r = (λ i. record { answer = refused (em i) (ev i); moved = none; work = ez i; steps = s + en i }) ∙ no _ _ r ∙ hidden-checked
 
 -- ---- a frame that was read
 
@@ -142,14 +174,6 @@ unfolding unsealParsed
 parsed-refused k v f w n vs = refl
 
 -- ---- the session
-
-pub after-moved : (s : Session) (m : List ℕ) {b : Bool} → b ≡ true → received s m ≡ afterUnseal s (cond b (some m) none)
-unfolding afterUnseal
-after-moved s m h = rw h
-
-pub after-still : (s : Session) (m : List ℕ) {b : Bool} → b ≡ false → s ≡ afterUnseal s (cond b (some m) none)
-unfolding afterUnseal
-after-still s m h = rw h
 
 module _ (s : Session) (f w : List ℕ) where
   pub on-secure : {x : UnsealRun} → isSecure (s .state) ≡ true → x ≡ unsealParsed (s .keys) (recvFrom s) f (parseOf f) w → unsealedOn s x ≡ unsealOf s f w

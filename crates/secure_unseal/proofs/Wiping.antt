@@ -20,6 +20,7 @@ use Rattle.laws.proofs.Overwrite.{write-over}
 use Rattle.aes.proofs.Laws.{D-block}
 use Rattle.aes.specs.Cipher.{D}
 use Rattle.secure_cipher.specs.Cbc.{Done, Opening, decRun, reveal, decryptOf, openedInto, wiped, laid}
+use Rattle.secure_cipher.specs.Mac.{macCalls}
 use Rattle.secure_cipher.proofs.CbcLaws.{dec-steps}
 use Rattle.secure_cipher.proofs.MacLaws.{mac-steps}
 use Rattle.secure_cipher.proofs.PadLaws.{unpad-less}
@@ -140,3 +141,7 @@ module _ (k v f : List ℕ) (at n : ℕ) (w : List ℕ) (fit : at + n ≤ length
 pub check-steps : (k : SessionKeys) (v f : List ℕ) (at : ℕ) → at ≤ length f → check k v f at .steps ≡ (at + 15) / 16
 unfolding check
 check-steps k v f at h = mac-steps (k .«s_mac1») (k .«s_mac2») v (take at f) ∙ ap (λ (n : ℕ). (n + 15) / 16) (length-take-le at f h)
+
+pub check-counted : (k : SessionKeys) (v f : List ℕ) (at : ℕ) → at ≤ length f → macCalls at ≡ check k v f at .steps
+unfolding macCalls
+check-counted k v f at h = sym (check-steps k v f at h)

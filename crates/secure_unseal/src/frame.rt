@@ -1,22 +1,26 @@
 // A sealed frame, checked and opened.
 ghost use mathlib.Core.Path.{_≡_};
+ghost use mathlib.Core.Bool.{true};
 ghost use mathlib.Core.List.{List};
 ghost use Prim.Native.Nat.{ℕ, _+_, _≤_};
 ghost use lib.ListN.{length, take, drop};
 ghost use Rattle.laws.specs.Answer.{Answer.given};
-ghost use Rattle.laws.specs.Bytes.{compl, eql};
 ghost use Rattle.packet_parse.specs.Frame.{parseOf, fields};
-ghost use Rattle.secure_cipher.specs.Cbc.{decryptOf, wiped, cipherTold};
+ghost use Rattle.secure_cipher.specs.Cbc.{wiped, cipherTold};
+ghost use Rattle.secure_session.specs.Session.{isSecure, recvFrom};
+ghost use Rattle.secure_session.specs.Handshake.{stepped};
+ghost use Rattle.secure_session.specs.Channel.{verifyOf, openDataOf};
 ghost use Rattle.secure_unseal.specs.Unseal.{check, openData, unsealPlain, unsealHidden, unsealParsed, unsealedOn, unsealOf, unsealTold};
-ghost use Rattle.secure_unseal.specs.Parts.{checked, ran, stopped};
+ghost use Rattle.secure_unseal.specs.Parts.{stopped};
 use packet_parse::BlockPart;
 use packet_parse::Parsed;
 use packet_parse::ParsedPacket;
 use refusal::LengthAnswer;
+use refusal::Outcome;
 use refusal::Refusal;
 use secure_cipher::Ciphered;
-use secure_keys::SessionKeys;
 use secure_session::Session;
+use secure_session::Stepped;
 
 // Where an opened payload stands: in the work buffer or in the frame.
 pub enum PlaceAnswer {
@@ -35,71 +39,39 @@ pub struct Unsealed {
     pub session: Session,
 }
 
-// Whether a frame's MAC is right; the full MAC; how often the cipher was called.
-struct MacCheck {
-    right: bool,
-    full: [u8; 16],
-    calls: usize,
-}
-
-// What unsealing comes to, with no session in it: where `moved` says so, the chain value becomes `full`.
-struct Run {
-    answer: PlaceAnswer,
-    moved: bool,
-    full: [u8; 16],
-    calls: usize,
-}
-
-// Whether the four bytes of the frame at `at` are the first four of a full MAC.
-fn same_four(full: [u8; 16], frame: &[u8], at: usize) -> bool
+// The four bytes of the frame at `at`.
+fn four_at(frame: &[u8], at: usize) -> [u8; 4]
     requires { ⌜ at + 4 ≤ length (now frame) ⌝ }
-    ensures { λ r. ⌜ r ≡ eql (take 4 full) (take 4 (drop at (now (frame .entry)))) ⌝ }
+    ensures { λ r. ⌜ r ≡ take 4 (drop at (now (frame .entry))) ⌝ }
 {
-    secure_keys::same(&full[..4], &frame[at..at + 4])
+    [frame[at], frame[at + 1], frame[at + 2], frame[at + 3]]
 }
 
 // The MAC over the frame's bytes before `mac_at`, against the four bytes there.
-fn check(keys: SessionKeys, start: [u8; 16], frame: &[u8], mac_at: usize) -> MacCheck
+fn check(session: Session, frame: &[u8], mac_at: usize) -> Stepped
     requires { ⌜ «mac_at» + 4 ≤ length (now frame) ⌝ }
-    ensures { λ r. ⌜ checked r ≡ check keys start (now (frame .entry)) «mac_at» ⌝ }
+    ensures { λ r. ⌜ stepped r ≡ verifyOf session (take «mac_at» (now (frame .entry))) (take 4 (drop «mac_at» (now (frame .entry)))) ⌝ }
 {
-    let s_mac1 = keys.s_mac1;
-    let s_mac2 = keys.s_mac2;
-    let m = secure_cipher::cbc_mac(&frame[..mac_at], start, s_mac1, s_mac2);
-    let full = m.full;
-    MacCheck {
-        right: same_four(full, frame, mac_at),
-        full,
-        calls: m.calls,
-    }
+    let four = four_at(frame, mac_at);
+    session.verify(&frame[..mac_at], four)
 }
 
 // The frame's encrypted data, opened into the work buffer.
-fn open_data(
-    keys: SessionKeys,
-    start: [u8; 16],
-    frame: &[u8],
-    at: usize,
-    len: usize,
-    work: &mut [u8],
-) -> Ciphered
+fn open_data(session: Session, frame: &[u8], at: usize, len: usize, work: &mut [u8]) -> Ciphered
     requires { ⌜ at + len ≤ length (now frame) ⌝ }
-    ensures { λ r. ⌜ cipherTold r (now (work .exit)) ≡ decryptOf (keys .«s_enc») (compl start) (take len (drop at (now (frame .entry)))) (now (work .entry)) ⌝ }
+    ensures { λ r. ⌜ cipherTold r (now (work .exit)) ≡ openDataOf session (take len (drop at (now (frame .entry)))) (now (work .entry)) ⌝ }
 {
-    let s_enc = keys.s_enc;
-    let iv = secure_cipher::complement_icv(start);
-    secure_cipher::decrypt_data(s_enc, iv, &frame[at..at + len], work)
+    session.open_data(&frame[at..at + len], work)
 }
 
-// Nothing opened, the chain not moved.
-fn stopped(e: Refusal, calls: usize) -> Run
-    ensures { λ r. ⌜ r ≡ stopped e calls ⌝ }
+// Nothing opened, the session as it was.
+fn stopped(session: Session, e: Refusal, calls: usize) -> Unsealed
+    ensures { λ r. ⌜ r ≡ stopped session e calls ⌝ }
 {
-    Run {
+    Unsealed {
         answer: PlaceAnswer::Refused(e),
-        moved: false,
-        full: [0; 16],
         calls,
+        session,
     }
 }
 
@@ -114,83 +86,79 @@ fn wipe(work: &mut [u8], n: usize)
 }
 
 // Types 15 and 16: the payload is shown where it stands in the frame.
-fn unseal_plain(c: MacCheck, p: ParsedPacket) -> Run
-    ensures { λ r. ⌜ ((w : List ℕ) → ran r w ≡ unsealPlain (checked c) (fields p) w) ⌝ }
+fn unseal_plain(session: Session, frame: &[u8], p: ParsedPacket, mac_at: usize) -> Unsealed
+    requires { ⌜ (isSecure (session .state) ≡ true) × («mac_at» + 4 ≤ length (now frame)) ⌝ }
+    ensures { λ r. ⌜ ((w : List ℕ) → unsealTold r w ≡ unsealedOn session (unsealPlain (check (session .keys) (recvFrom session) (now (frame .entry)) «mac_at») (fields p) w)) ⌝ }
 {
-    if c.right {
-        let full = c.full;
-        Run {
+    let calls = secure_cipher::mac_calls(mac_at);
+    let c = check(session, frame, mac_at);
+    let right = c.outcome;
+    let next = c.session;
+    match right {
+        Outcome::Done => Unsealed {
             answer: PlaceAnswer::Payload {
                 in_work: false,
                 start: p.data_start,
                 len: p.data_len,
             },
-            moved: true,
-            full,
-            calls: c.calls,
-        }
-    } else {
-        stopped(Refusal::BadCryptogram, c.calls)
+            calls,
+            session: next,
+        },
+        Outcome::Refused(e) => stopped(session, e, calls),
     }
 }
 
-// Types 17 and 18: 18 and 14 come from the opening, 15 from the check after it. Both start from the same value.
+// Types 17 and 18: 18 and 14 come from the opening, 15 from the check after it, which alone moves the chain.
 fn unseal_hidden(
-    keys: SessionKeys,
-    start: [u8; 16],
+    session: Session,
     frame: &[u8],
     p: ParsedPacket,
     mac_at: usize,
     work: &mut [u8],
-) -> Run
-    requires { ⌜ («mac_at» + 4 ≤ length (now frame)) × (p .«data_start» + p .«data_len» ≤ length (now frame)) ⌝ }
-    ensures { λ r. ⌜ ran r (now (work .exit)) ≡ unsealHidden (check keys start (now (frame .entry)) «mac_at») (openData keys start (now (frame .entry)) (fields p)) (fields p) (now (work .entry)) ⌝ }
+) -> Unsealed
+    requires { ⌜ (isSecure (session .state) ≡ true) × («mac_at» + 4 ≤ length (now frame)) × (p .«data_start» + p .«data_len» ≤ length (now frame)) ⌝ }
+    ensures { λ r. ⌜ unsealTold r (now (work .exit)) ≡ unsealedOn session (unsealHidden (check (session .keys) (recvFrom session) (now (frame .entry)) «mac_at») (openData (session .keys) (recvFrom session) (now (frame .entry)) (fields p)) (fields p) (now (work .entry))) ⌝ }
 {
     let at = p.data_start;
     let n = p.data_len;
-    let o = open_data(keys, start, frame, at, n, work);
+    let o = open_data(session, frame, at, n, work);
     let opened = o.answer;
     match opened {
         LengthAnswer::Of(len) => {
-            let c = check(keys, start, frame, mac_at);
-            let calls = o.calls + c.calls;
-            if c.right {
-                let full = c.full;
-                Run {
+            let calls = o.calls + secure_cipher::mac_calls(mac_at);
+            let c = check(session, frame, mac_at);
+            let right = c.outcome;
+            let next = c.session;
+            match right {
+                Outcome::Done => Unsealed {
                     answer: PlaceAnswer::Payload {
                         in_work: true,
                         start: 0,
                         len,
                     },
-                    moved: true,
-                    full,
                     calls,
+                    session: next,
+                },
+                Outcome::Refused(e) => {
+                    // what was opened must not stay behind
+                    wipe(work, n);
+                    stopped(session, e, calls)
                 }
-            } else {
-                // what was opened must not stay behind
-                wipe(work, n);
-                stopped(Refusal::BadCryptogram, calls)
             }
         }
-        LengthAnswer::Refused(e) => stopped(e, o.calls),
+        LengthAnswer::Refused(e) => stopped(session, e, o.calls),
     }
 }
 
 // A frame that was read: the block's type says how it is sealed.
-fn unseal_parsed(
-    keys: SessionKeys,
-    start: [u8; 16],
-    frame: &[u8],
-    p: ParsedPacket,
-    work: &mut [u8],
-) -> Run
-    requires { ⌜ parseOf (now frame) ≡ given (fields p) ⌝ }
-    ensures { λ r. ⌜ ran r (now (work .exit)) ≡ unsealParsed keys start (now (frame .entry)) (given (fields p)) (now (work .entry)) ⌝ }
+fn unseal_parsed(session: Session, frame: &[u8], p: ParsedPacket, work: &mut [u8]) -> Unsealed
+    requires { ⌜ (isSecure (session .state) ≡ true) × (parseOf (now frame) ≡ given (fields p)) ⌝ }
+    ensures { λ r. ⌜ unsealTold r (now (work .exit)) ≡ unsealedOn session (unsealParsed (session .keys) (recvFrom session) (now (frame .entry)) (given (fields p)) (now (work .entry))) ⌝ }
 {
     let block = p.block;
     let mac = p.mac;
     match block {
-        BlockPart::Absent => stopped(Refusal::NotSecure, 0),
+        BlockPart::Absent => stopped(session, Refusal::NotSecure, 0),
         BlockPart::At {
             ty,
             start: _,
@@ -199,45 +167,13 @@ fn unseal_parsed(
             if ty.has_mac() {
                 let mac_at = packet_parse::mac_start(mac);
                 if ty.is_encrypted() {
-                    unseal_hidden(keys, start, frame, p, mac_at, work)
+                    unseal_hidden(session, frame, p, mac_at, work)
                 } else {
-                    unseal_plain(check(keys, start, frame, mac_at), p)
+                    unseal_plain(session, frame, p, mac_at)
                 }
             } else {
-                stopped(Refusal::NotSecure, 0)
+                stopped(session, Refusal::NotSecure, 0)
             }
-        }
-    }
-}
-
-// The core: keys, a start value, a frame and a work buffer.
-fn unseal_frame(keys: SessionKeys, start: [u8; 16], frame: &[u8], work: &mut [u8]) -> Run
-    ensures { λ r. ⌜ ran r (now (work .exit)) ≡ unsealParsed keys start (now (frame .entry)) (parseOf (now (frame .entry))) (now (work .entry)) ⌝ }
-{
-    match packet_parse::parse(frame) {
-        Parsed::Good(p) => unseal_parsed(keys, start, frame, p, work),
-        Parsed::Refused(e) => stopped(e, 0),
-    }
-}
-
-// What the core came to, put on a session.
-fn unsealed_on(session: Session, r: Run) -> Unsealed
-    ensures { λ u. ⌜ ((w : List ℕ) → unsealTold u w ≡ unsealedOn session (ran r w)) ⌝ }
-{
-    let answer = r.answer;
-    if r.moved {
-        let full = r.full;
-        let next = session.received(full);
-        Unsealed {
-            answer,
-            calls: r.calls,
-            session: next,
-        }
-    } else {
-        Unsealed {
-            answer,
-            calls: r.calls,
-            session,
         }
     }
 }
@@ -246,17 +182,11 @@ fn unsealed_on(session: Session, r: Run) -> Unsealed
 pub fn unseal(session: Session, frame: &[u8], work: &mut [u8]) -> Unsealed
     ensures { λ r. ⌜ unsealTold r (now (work .exit)) ≡ unsealOf session (now (frame .entry)) (now (work .entry)) ⌝ }
 {
-    let state = session.state;
-    if secure_session::is_secure(state) {
-        let keys = session.keys;
-        let start = session.recv_from();
-        let r = unseal_frame(keys, start, frame, work);
-        unsealed_on(session, r)
-    } else {
-        Unsealed {
-            answer: PlaceAnswer::Refused(Refusal::WrongState),
-            calls: 0,
-            session,
-        }
+    if !session.is_secure() {
+        return stopped(session, Refusal::WrongState, 0);
+    }
+    match packet_parse::parse(frame) {
+        Parsed::Good(p) => unseal_parsed(session, frame, p, work),
+        Parsed::Refused(e) => stopped(session, e, 0),
     }
 }

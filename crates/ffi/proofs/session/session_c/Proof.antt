@@ -1,11 +1,13 @@
--- `session_c` meets its contract: field by field.
+-- `session_c` meets its contract: through the door, and field by field.
 -- Assumes nothing.
+use mathlib.Core.Path.{ap, _∙_}
+use Rattle.ffi.specs.Sessions.{cFields}
 use borrow.Author.Needs.{needs}
 use Rattle.ffi.proofs.session.session_c.Statement.{statement}
 use Rattle.ffi.proofs.session.session_c.Tie as tie
 
 returns : tie.Need-returns
-returns c = rw (c .state-number .ensures, c .before .end-number .ensures, c .before .before .before .keys-c .ensures)
+returns c = c .fields-c .ensures ∙ ap cFields (c .before .door-out .ensures)
 
 pub session-c-spec : {M : Type 1} → statement M
-session-c-spec = tie.close (tie.spec (λ c κs. search needs) (λ c κs. search needs) (λ c κs. search needs) returns)
+session-c-spec = tie.close (tie.spec (λ c κs. search needs) (λ c κs. search needs) returns)

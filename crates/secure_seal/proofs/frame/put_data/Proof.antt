@@ -1,34 +1,50 @@
 -- `secure_seal::frame::put_data` meets its contract: the cipher is called on a part that has the room, or the payload is copied.
 -- Assumes nothing.
+use Prim.Native.Nat.{ℕ}
+use mir.Syntax.{w8}
+use Rattle.laws.specs.Blocks.{Block}
+use Rattle.secure_session.proofs.SessionLaws.{send-block}
 use Rattle.secure_seal.proofs.DataWritten.{hidden-written, plain-fits, plain-written}
-use Rattle.secure_seal.proofs.Arrays.{array-block}
-use borrow.Author.Needs.{needs}
+use borrow.Author.Needs.{needs, length-unmapped, elem-fits-field}
 use Rattle.secure_seal.proofs.frame.put_data.Statement.{statement}
 use Rattle.secure_seal.proofs.frame.put_data.Tie as tie
+
+-- what owning a session tells: its key and its chain value are blocks
+key-block : (s : tie.Start) → Block (s .args .session .keys .«s_enc»)
+key-block s =
+    let g = s .good .0 .1 .1 .1 .1 .1 .1 .1 .1 .0 .1 .1 .0 .1 in
+    record { size = length-unmapped ℕ (s .args .session .keys .«s_enc») 16 (g .0 .1); bytes = λ i. elem-fits-field w8 w8 (s .args .session .keys .«s_enc») _ i (g .1) tt .fits }
+
+chain-block : (s : tie.Start) → Block (s .args .session .chain)
+chain-block s =
+    let g = s .good .0 .1 .1 .1 .1 .1 .1 .1 .1 .1 .0 .1 in
+    record { size = length-unmapped ℕ (s .args .session .chain) 16 (g .0 .1); bytes = λ i. elem-fits-field w8 w8 (s .args .session .chain) _ i (g .1) tt .fits }
 
 copy-requires : tie.Need-copy-requires
 copy-requires c κs =
     let s = c .before .before .before .before in
-    plain-fits (s .args .encrypt) (s .args .«data» .now) (s .args .out .now) (c .before .if1 .left) (s .pre)
+    plain-fits (s .args .encrypt) (s .args .«data» .now) (s .args .out .now) (c .before .if1 .left) (s .pre .1)
 
 returns : tie.Need-returns
 returns c =
-    let s = c .before .before .before .before .before .before .before .before in
+    let s = c .before .before .before .before .before .before .before in
     let a = s .args in
-    hidden-written (a .encrypt) (a .s-enc) (a .start) (c .before .before .before .before .complement-icv .result) (a .«data» .now) (a .out .now) _ (c .before .before .encrypt-data .result)
-    (c .before .before .before .before .before .if1 .taken) (array-block (s .good .0)) (array-block (s .good .1 .0)) (λ i. c .before .before .before .before .before .before .before .shared-slice-known .given i .fits) (s .pre)
-    (c .before .before .before .before .complement-icv .ensures) (c .before .before .encrypt-data .ensures)
+    let k : Block (a .session .keys .«s_enc») = key-block s in
+    let v : Block (a .session .chain) = chain-block s in
+    hidden-written (a .encrypt) (a .session) (a .«data» .now) (a .out .now) _ (c .before .before .seal-data .result)
+    (c .before .before .before .before .if1 .taken) (s .pre .0) k (send-block (a .session) v)
+    (λ i. c .before .before .before .before .before .before .shared-slice-known .given i .fits) (s .pre .1) (c .before .before .seal-data .ensures)
 
 returns-2 : tie.Need-returns-2
 returns-2 c =
     let s = c .before .before .before .before .before .before .before in
-    plain-written (s .args .encrypt) (s .args .s-enc) (s .args .start) (s .args .«data» .now) _ (c .before .before .before .before .if1 .left) (c .before .before .copy .ensures)
+    let a = s .args in
+    plain-written (a .encrypt) _ _ (a .«data» .now) _ (c .before .before .before .before .if1 .left) (c .before .before .copy .ensures)
 
 pub put-data-spec : {M : Type 1} → statement M
 put-data-spec =
     tie.close
     (tie.spec
-    (λ c κs. search needs)
     (λ c κs. search needs)
     copy-requires
     (λ c. search needs)

@@ -1,6 +1,8 @@
 -- `secure_seal::frame::seal` meets its contract: 16, what the tests of the frame answer, or the frame and the chain moved by its MAC.
 -- Assumes nothing.
-use mathlib.Core.Path.{_≡_, ap, _∙_}
+use mathlib.Core.Path.{_≡_, sym, ap, _∙_}
+use native.Mathlib.Omega.{arith}
+use borrow.Author.Tests.{not-false}
 use Prim.Native.Nat.{ℕ}
 use lib.ListN.{length}
 use Rattle.refusal.specs.Reading.{lengthAnswer}
@@ -28,10 +30,11 @@ answered c =
 
 put-frame-requires : tie.Need-put-frame-requires
 put-frame-requires c κs =
-    let k = c .before .before .before .before in
-    let s = k .before .before .before .before .before .before .before .before in
+    let k = c .before .before in
+    let i = k .before .before .before .before .before in
+    let s = i .before .before .before in
     let p = tests-passed (asked s) (length (s .args .out .now)) (k .total .given .0 .0) (ap lengthAnswer (k .total .given .1)) (answered (k .before .before)) in
-    (p .sqn, p .most, p .room)
+    (sym (i .is-secure .ensures) ∙ not-false _ (k .before .before .before .before .if1 .left), p .sqn, sym (p .total), omega (arith, p .most, p .total), omega (arith, p .room, p .total))
 
 returns-2 : tie.Need-returns-2
 returns-2 c =
@@ -44,17 +47,17 @@ returns-2 c =
 
 returns-3 : tie.Need-returns-3
 returns-3 c =
-    let p = c .before .before .before .before in
-    let k = p .before .before .before .before .before in
+    let p = c .before .before in
+    let k = p .before .before .before in
     let i = k .before .before .before .before .before in
     let s = i .before .before .before in
     let a = s .args in
     told-done (a .session) (asked s) (a .out .now) _ (i .is-secure .ensures) (k .before .before .before .before .if1 .left) (answered (k .before .before)) (k .total .given .0 .0)
-    (p .put-frame .result) (p .before .before .send-from .result) _ _ (ap lengthAnswer (k .total .given .1)) (p .before .before .send-from .ensures) (p .put-frame .ensures) (c .sent .ensures)
+    (ap lengthAnswer (k .total .given .1)) (p .put-frame .ensures)
 
 pub seal-spec : {M : Type 1} → statement M
 seal-spec =
     tie.close
     (tie.spec (λ c κs. search needs) (λ c κs. search needs) returns
-    (λ c κs. search needs) (λ c κs. search needs) (λ c. search needs) (λ c κs. search needs) (λ c. search needs) (λ c κs. search needs)
-    put-frame-requires (λ c κs. search needs) returns-2 (λ c. search needs) returns-3)
+    (λ c κs. search needs) (λ c κs. search needs) (λ c. search needs) (λ c κs. search needs) (λ c. search needs)
+    put-frame-requires returns-2 (λ c. search needs) returns-3)

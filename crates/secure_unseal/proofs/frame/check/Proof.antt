@@ -1,22 +1,23 @@
--- `check` meets its contract: the MAC over what stands before it, and its first four bytes compared.
+-- `check` meets its contract: what stands before the MAC, verified against its four bytes.
 -- Assumes nothing.
 use native.Mathlib.Omega.{arith}
-use mathlib.Core.Path.{sym}
+use mathlib.Core.List.{List}
+use mathlib.Core.Path.{sym, ap, _∙_}
+use Prim.Native.Nat.{ℕ}
+use lib.ListN.{take}
 use lib.Seq.{length-take-le}
-use Rattle.secure_unseal.proofs.Cases.{check-made}
+use Rattle.secure_session.specs.Channel.{verifyOf}
 use borrow.Author.Needs.{needs}
 use Rattle.secure_unseal.proofs.frame.check.Statement.{statement}
 use Rattle.secure_unseal.proofs.frame.check.Tie as tie
 
-slice-aggregate-cbc-mac : tie.Need-slice-aggregate-cbc-mac
-slice-aggregate-cbc-mac c = sym (length-take-le _ _ (omega arith))
+slice-aggregate-verify : tie.Need-slice-aggregate-verify
+slice-aggregate-verify c = sym (length-take-le _ _ (omega arith))
 
 returns : tie.Need-returns
 returns c =
-    let m = c .before .before in
-    let a = m .before .before .before .before .before .args in
-    check-made (a .keys) (a .start) (a .frame .now) (a .mac-at) (m .cbc-mac .ensures) (c .same-four .ensures)
+    let a = c .before .before .before .before .args in
+    c .verify .ensures ∙ ap (λ (x : List ℕ). verifyOf (a .session) (take (a .mac-at) (a .frame .now)) x) (c .before .before .four-at .ensures)
 
 pub check-spec : {M : Type 1} → statement M
-check-spec =
-    tie.close (tie.spec slice-aggregate-cbc-mac (λ c κs. search needs) (λ c κs. search needs) returns)
+check-spec = tie.close (tie.spec (λ c κs. search needs) slice-aggregate-verify (λ c κs. search needs) returns)

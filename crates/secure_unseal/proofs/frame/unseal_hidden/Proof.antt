@@ -4,67 +4,101 @@ use native.Mathlib.Omega.{arith}
 use mathlib.Core.Path.{_≡_, ap, _∙_}
 use Prim.Native.Nat.{ℕ, _+_, _/_, _≤_}
 use mir.Syntax.{w8}
-use lib.ListN.{length}
+use lib.ListN.{length, take, drop}
 use Rattle.laws.specs.Blocks.{Block}
-use Rattle.laws.specs.Bytes.{Bytes}
+use Rattle.laws.specs.Bytes.{Bytes, compl}
 use Rattle.packet_parse.specs.Frame.{fields}
 use Rattle.refusal.specs.Reading.{lengthAnswer}
-use Rattle.secure_unseal.specs.Unseal.{Checked, check}
-use Rattle.secure_unseal.specs.Parts.{checked}
-use Rattle.secure_unseal.proofs.Cases.{stops, hidden-no, hidden-right, hidden-wrong}
-use Rattle.secure_unseal.proofs.Wiping.{found-steps, found-room, found-wiped, check-steps}
+use Rattle.secure_cipher.specs.Cbc.{cipherTold, decryptOf}
+use Rattle.secure_session.specs.Session.{recvFrom}
+use Rattle.secure_session.proofs.SecureLaws.{secure-open-data}
+use Rattle.secure_session.proofs.SessionLaws.{recv-block}
+use Rattle.secure_unseal.specs.Unseal.{check}
+use Rattle.secure_unseal.proofs.Cases.{stops, moves, check-passed, check-failed, hidden-no, hidden-right, hidden-wrong}
+use Rattle.secure_unseal.proofs.Wiping.{found-steps, found-room, found-wiped, check-steps, check-counted}
 use borrow.Author.Needs.{needs, length-unmapped, elem-fits-field}
 use Rattle.secure_unseal.proofs.frame.unseal_hidden.Statement.{statement}
 use Rattle.secure_unseal.proofs.frame.unseal_hidden.Tie as tie
 
+-- what owning a session tells: its key and its chain value are blocks
+key-block : (s : tie.Start) → Block (s .args .session .keys .«s_enc»)
+key-block s =
+    let g = s .good .0 .1 .1 .1 .1 .1 .1 .1 .1 .0 .1 .1 .0 .1 in
+    record {
+      size = length-unmapped ℕ (s .args .session .keys .«s_enc») 16 (g .0 .1);
+      bytes = λ i. elem-fits-field w8 w8 (s .args .session .keys .«s_enc») _ i (g .1) tt .fits;
+    }
+
+chain-block : (s : tie.Start) → Block (s .args .session .chain)
+chain-block s =
+    let g = s .good .0 .1 .1 .1 .1 .1 .1 .1 .1 .1 .0 .1 in
+    record {
+      size = length-unmapped ℕ (s .args .session .chain) 16 (g .0 .1);
+      bytes = λ i. elem-fits-field w8 w8 (s .args .session .chain) _ i (g .1) tt .fits;
+    }
+
+-- the session's call is the cipher's own
+opened : (d : tie.After-open-data) → let a = d .before .before .before .before .args in
+    cipherTold (d .open-data .result) (d .open-data .last .1 .1 .1 .1 .0) ≡ decryptOf (a .session .keys .«s_enc») (compl (recvFrom (a .session))) (take (a .p .«data_len») (drop (a .p .«data_start») (a .frame .now))) (a .work .now)
+opened d =
+    let s = d .before .before .before .before in
+    let a = s .args in
+    d .open-data .ensures ∙ secure-open-data (a .session) (s .pre .0) (take (a .p .«data_len») (drop (a .p .«data_start») (a .frame .now))) (a .work .now)
+
+-- what is counted is what the check takes
+counted : (m : tie.After-mac-calls) → let s = m .before .before .before .before .before .before .before .before .before .before in m .mac-calls .result ≡ check (s .args .session .keys) (recvFrom (s .args .session)) (s .args .frame .now) (s .args .mac-at) .steps
+counted m =
+    let s = m .before .before .before .before .before .before .before .before .before .before in
+    m .mac-calls .ensures ∙ check-counted (s .args .session .keys) (recvFrom (s .args .session)) (s .args .frame .now) (s .args .mac-at) (omega (arith, s .pre .1))
+
 add-calls : tie.Need-add-calls
 add-calls c =
-    let k = c .before .before in
-    let d = k .before .before .before .before .before .before in
+    let m = c .before in
+    let d = m .before .before .before .before .before .before in
     let s = d .before .before .before .before in
     let a = s .args in
     let n = a .p .«data_len» in
-    let h : d .open-data .result .calls ≤ n / 16 = found-steps (a .keys .«s_enc») (a .start) (a .frame .now) (a .p .«data_start») n (a .work .now) (s .pre .1) (d .open-data .ensures) in
-    let q : k .check .result .calls ≡ check (a .keys) (a .start) (a .frame .now) (a .mac-at) .steps = ap (λ (y : Checked). y .steps) (k .check .ensures) in
-    let b : check (a .keys) (a .start) (a .frame .now) (a .mac-at) .steps ≡ (a .mac-at + 15) / 16 = check-steps (a .keys) (a .start) (a .frame .now) (a .mac-at) (omega (arith, s .pre .0)) in
-    omega (arith, h, q, b, s .pre .0, s .pre .1, s .good)
+    let h : d .open-data .result .calls ≤ n / 16 = found-steps (a .session .keys .«s_enc») (recvFrom (a .session)) (a .frame .now) (a .p .«data_start») n (a .work .now) (s .pre .2) (opened d) in
+    let b : check (a .session .keys) (recvFrom (a .session)) (a .frame .now) (a .mac-at) .steps ≡ (a .mac-at + 15) / 16 = check-steps (a .session .keys) (recvFrom (a .session)) (a .frame .now) (a .mac-at) (omega (arith, s .pre .1)) in
+    omega (arith, h, counted m, b, s .pre .1, s .pre .2, s .good)
 
 wipe-requires : tie.Need-wipe-requires
 wipe-requires c κs =
-    let k = c .before .before .before .before in
-    let g = k .before .before in
+    let g = c .before .before .before .before .before .before .before .before .before in
     let d = g .before .before .before .before in
     let s = d .before .before .before .before in
     let a = s .args in
-    let r = found-room (a .keys .«s_enc») (a .start) (a .frame .now) (a .p .«data_start») (a .p .«data_len») (a .work .now) (s .pre .1) (d .open-data .ensures) _ (ap lengthAnswer (g .opened .given .1)) in
+    let r = found-room (a .session .keys .«s_enc») (recvFrom (a .session)) (a .frame .now) (a .p .«data_start») (a .p .«data_len») (a .work .now) (s .pre .2) (opened d) _ (ap lengthAnswer (g .opened .given .1)) in
     omega (arith, r, g .before .before .before .work .given)
 
 returns : tie.Need-returns
 returns c =
-    let k = c .before .before .before .before in
-    let g = k .before .before in
+    let k = c .before .before .before in
+    let m = k .before .before in
+    let g = m .before .before in
     let d = g .before .before .before .before in
     let s = d .before .before .before .before in
     let a = s .args in
-    hidden-right (a .keys) (a .start) (a .frame .now) (fields (a .p)) (a .work .now) (s .pre .1) (d .open-data .ensures) _ (ap lengthAnswer (g .opened .given .1)) (checked (k .check .result)) (k .check .ensures) (c .before .if1 .taken)
+    let y = check-passed (a .session) (s .pre .0) (a .frame .now) (a .mac-at) (k .check .result) (k .check .ensures) (c .enum-told .given .1) in
+    moves (a .session) _ (y .1) (hidden-right (a .session .keys) (recvFrom (a .session)) (a .frame .now) (fields (a .p)) (a .work .now) (s .pre .2) (opened d) _ _ (ap lengthAnswer (g .opened .given .1)) (counted m) (y .0))
 
 returns-2 : tie.Need-returns-2
 returns-2 c =
-    let k = c .before .before .before .before .before .before .before .before in
-    let g = k .before .before in
+    let k = c .before .before .before .before .before .before .before .before .before in
+    let m = k .before .before in
+    let g = m .before .before in
     let d = g .before .before .before .before in
     let s = d .before .before .before .before in
     let a = s .args in
-    let good = s .good .0 .1 .1 .0 .1 in
-    let key : Block (a .keys .«s_enc») = record {
-      size = length-unmapped ℕ (a .keys .«s_enc») 16 (good .0 .1);
-      bytes = λ i. elem-fits-field w8 w8 (a .keys .«s_enc») _ i (good .1) tt .fits;
-    } in
-    let v : length (a .start) ≡ 16 = search needs in
+    let x = c .before .before .before .before .before .before .right .given in
+    let y = check-failed (a .session) (s .pre .0) (a .frame .now) (a .mac-at) (k .check .result) (k .check .ensures) (x .0 .0) (x .1) in
     let f : Bytes (a .frame .now) = λ i. omega (arith, d .before .before .before .shared-slice-known .given i) in
-    let z = found-wiped (a .keys .«s_enc») (a .start) (a .frame .now) (a .p .«data_start») (a .p .«data_len») (a .work .now) (s .pre .1) (d .open-data .ensures) _ (ap lengthAnswer (g .opened .given .1)) key v f in
+    let z = found-wiped (a .session .keys .«s_enc») (recvFrom (a .session)) (a .frame .now) (a .p .«data_start») (a .p .«data_len») (a .work .now) (s .pre .2) (opened d) _ (ap lengthAnswer (g .opened .given .1)) (key-block s) (recv-block (a .session) (chain-block s) .size) f in
     stops (c .stopped .ensures)
-    (hidden-wrong (a .keys) (a .start) (a .frame .now) (fields (a .p)) (a .work .now) (s .pre .1) (d .open-data .ensures) _ (ap lengthAnswer (g .opened .given .1)) (checked (k .check .result)) (k .check .ensures) _ (c .before .before .before .wipe .ensures ∙ z) (c .before .before .before .before .before .if1 .left))
+    (hidden-wrong (a .session .keys) (recvFrom (a .session)) (a .frame .now) (fields (a .p)) (a .work .now) (s .pre .2) (opened d) _ _ (ap lengthAnswer (g .opened .given .1)) (counted m) _ _ _ (y .1) (y .2) (c .before .before .before .wipe .ensures ∙ z) (y .0))
+
+same-length-2 : tie.Need-same-length-2
+same-length-2 c = c .before .before .work2 .given ∙ c .before .before .before .before .before .before .before .before .before .before .before .before .before .before .before .before .work .given
 
 returns-3 : tie.Need-returns-3
 returns-3 c =
@@ -73,7 +107,7 @@ returns-3 c =
     let s = d .before .before .before .before in
     let a = s .args in
     stops (c .stopped2 .ensures)
-    (hidden-no (a .keys) (a .start) (a .frame .now) (fields (a .p)) (a .work .now) (s .pre .1) (d .open-data .ensures) (check (a .keys) (a .start) (a .frame .now) (a .mac-at)) _ _ (ap lengthAnswer (g .opened2 .given .1)))
+    (hidden-no (a .session .keys) (recvFrom (a .session)) (a .frame .now) (fields (a .p)) (a .work .now) (s .pre .2) (opened d) (check (a .session .keys) (recvFrom (a .session)) (a .frame .now) (a .mac-at)) _ _ (ap lengthAnswer (g .opened2 .given .1)))
 
 pub unseal-hidden-spec : {M : Type 1} → statement M
 unseal-hidden-spec =
@@ -83,13 +117,16 @@ unseal-hidden-spec =
     (λ c. search needs)
     (λ c κs. search needs)
     add-calls
+    (λ c κs. search needs)
+    (λ c. search needs)
+    (λ c. search needs)
     wipe-requires
     (λ c κs. search needs)
     (λ c. search needs)
     (λ c κs. search needs)
     (λ c. search needs)
     returns
-    (λ c. search needs)
+    same-length-2
     returns-2
     (λ c. search needs)
     returns-3)

@@ -7,7 +7,8 @@ use Prim.Native.Nat.{ℕ}
 use Rattle.packet_head.specs.Block.{hasMac, isEncrypted}
 use Rattle.packet_parse.specs.Frame.{typeIn, fields, blockPlace}
 use Rattle.packet_parse.specs.declared.codec.BlockPart.{BlockPart}
-use Rattle.secure_unseal.specs.Unseal.{Checked, check, openData, unsealPlain, unsealHidden}
+use Rattle.secure_session.specs.Session.{recvFrom}
+use Rattle.secure_unseal.specs.Unseal.{check, openData, unsealPlain, unsealHidden, unsealedOn}
 use Rattle.secure_unseal.proofs.Cases.{stops, parsed-no, parsed-hidden, parsed-plain}
 use Rattle.secure_unseal.proofs.Inside.{mac-inside, data-inside}
 use borrow.Author.Needs.{needs}
@@ -30,21 +31,21 @@ unseal-hidden-requires c κs =
     let s = m .before .before .before .before .before .before .before .before in
     let a = s .args in
     let f = fields (a .p) in
-    (omega (arith, m .mac-start .ensures, mac-inside (a .frame .now) f (s .pre) (mac-due m)), data-inside (a .frame .now) f (s .pre))
+    (s .pre .0, omega (arith, m .mac-start .ensures, mac-inside (a .frame .now) f (s .pre .1) (mac-due m)), data-inside (a .frame .now) f (s .pre .1))
 
-check-requires : tie.Need-check-requires
-check-requires c κs =
+unseal-plain-requires : tie.Need-unseal-plain-requires
+unseal-plain-requires c κs =
     let m = c .before .before in
     let s = m .before .before .before .before .before .before .before .before in
     let a = s .args in
     let f = fields (a .p) in
-    omega (arith, m .mac-start .ensures, mac-inside (a .frame .now) f (s .pre) (mac-due m))
+    (s .pre .0, omega (arith, m .mac-start .ensures, mac-inside (a .frame .now) f (s .pre .1) (mac-due m)))
 
 returns : tie.Need-returns
 returns c =
     let a = c .before .before .before .before .before .args in
     stops (c .stopped .ensures)
-    (parsed-no (a .keys) (a .start) (a .frame .now) (fields (a .p)) (a .work .now) (ap (λ (b : BlockPart). hasMac (typeIn (blockPlace b))) (c .before .enum-told .given .1)))
+    (parsed-no (a .session .keys) (recvFrom (a .session)) (a .frame .now) (fields (a .p)) (a .work .now) (ap (λ (b : BlockPart). hasMac (typeIn (blockPlace b))) (c .before .enum-told .given .1)))
 
 returns-2 : tie.Need-returns-2
 returns-2 c =
@@ -54,22 +55,27 @@ returns-2 c =
     let g = m .before .before .before .before in
     let a = g .before .before .before .before .args in
     let f = fields (a .p) in
+    let k = a .session .keys in
+    let v = recvFrom (a .session) in
     let y : isEncrypted (typeIn (f .block)) ≡ true = type-tested isEncrypted (g .block .given .1) (e .is-encrypted .ensures) (u .before .before .if2 .taken) in
     u .unseal-hidden .ensures
-    ∙ ap (λ (n : ℕ). unsealHidden (check (a .keys) (a .start) (a .frame .now) n) (openData (a .keys) (a .start) (a .frame .now) f) f (a .work .now)) (m .mac-start .ensures)
-    ∙ parsed-hidden (a .keys) (a .start) (a .frame .now) f (a .work .now) (mac-due m) y
+    ∙ ap (unsealedOn (a .session))
+    (ap (λ (n : ℕ). unsealHidden (check k v (a .frame .now) n) (openData k v (a .frame .now) f) f (a .work .now)) (m .mac-start .ensures)
+    ∙ parsed-hidden k v (a .frame .now) f (a .work .now) (mac-due m) y)
 
 returns-3 : tie.Need-returns-3
 returns-3 c =
-    let e = c .before .before .before in
+    let e = c .before .before in
     let m = e .before in
     let g = m .before .before .before .before in
     let a = g .before .before .before .before .args in
     let f = fields (a .p) in
-    let y : isEncrypted (typeIn (f .block)) ≡ false = type-tested isEncrypted (g .block .given .1) (e .is-encrypted .ensures) (c .before .before .if2 .left) in
+    let k = a .session .keys in
+    let v = recvFrom (a .session) in
+    let y : isEncrypted (typeIn (f .block)) ≡ false = type-tested isEncrypted (g .block .given .1) (e .is-encrypted .ensures) (c .before .if2 .left) in
     c .unseal-plain .ensures (a .work .now)
-    ∙ ap (λ (x : Checked). unsealPlain x f (a .work .now)) (c .before .check .ensures ∙ ap (check (a .keys) (a .start) (a .frame .now)) (m .mac-start .ensures))
-    ∙ parsed-plain (a .keys) (a .start) (a .frame .now) f (a .work .now) (mac-due m) y
+    ∙ ap (unsealedOn (a .session))
+    (ap (λ (n : ℕ). unsealPlain (check k v (a .frame .now) n) f (a .work .now)) (m .mac-start .ensures) ∙ parsed-plain k v (a .frame .now) f (a .work .now) (mac-due m) y)
 
 returns-4 : tie.Need-returns-4
 returns-4 c =
@@ -77,7 +83,7 @@ returns-4 c =
     let g = h .before .before in
     let a = g .before .before .before .before .args in
     stops (c .stopped2 .ensures)
-    (parsed-no (a .keys) (a .start) (a .frame .now) (fields (a .p)) (a .work .now) (type-tested hasMac (g .block .given .1) (h .has-mac .ensures) (c .before .if1 .left)))
+    (parsed-no (a .session .keys) (recvFrom (a .session)) (a .frame .now) (fields (a .p)) (a .work .now) (type-tested hasMac (g .block .given .1) (h .has-mac .ensures) (c .before .if1 .left)))
 
 pub unseal-parsed-spec : {M : Type 1} → statement M
 unseal-parsed-spec =
@@ -90,8 +96,7 @@ unseal-parsed-spec =
     (λ c κs. search needs)
     (λ c κs. search needs)
     unseal-hidden-requires
-    check-requires
-    (λ c κs. search needs)
+    unseal-plain-requires
     (λ c κs. search needs)
     returns
     (λ c. search needs)

@@ -1,12 +1,12 @@
--- `secure_session::channel::is_secure` meets its contract: the number tells.
+-- `secure_session::session::Session::is_secure` meets its contract: the number tells.
 -- Assumes nothing.
 use mathlib.Core.Path.{ap}
 use Prim.Native.Nat.{ℕ}
 use lib.Dec.{eqb}
 use borrow.Author.Needs.{needs}
 use Rattle.secure_session.specs.Session.{isSecure}
-use Rattle.secure_session.proofs.channel.is_secure.Tie as tie
-use Rattle.secure_session.proofs.channel.is_secure.Statement.{statement}
+use Rattle.secure_session.proofs.session.Session.is_secure.Tie as tie
+use Rattle.secure_session.proofs.session.Session.is_secure.Statement.{statement}
 
 returns : tie.Need-returns
 unfolding isSecure
