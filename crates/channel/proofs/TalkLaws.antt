@@ -25,30 +25,31 @@ use Rattle.secure_seal.proofs.SealLaws.{seals, stepsFor, headWith, fieldsWith, 
 use Rattle.secure_unseal.specs.Unseal.{unsealRun, afterUnseal, unsealOf}
 use Rattle.channel.specs.Carried.{onLine}
 use Rattle.channel.specs.Talk.{Send, directionOf, askedIn, Event, showing, transfer, turn, talk}
-use Rattle.channel.specs.Demand.{SendFits, AllFit, encryptedLen, secretLen, openBytes, Each, Arrived, secretFrom, Measured}
+use Rattle.channel.specs.Demand.{SendFits, AllFit, secretFor, secretLen, openBytes, Each, Arrived, secretFrom, Measured}
 use Rattle.channel.proofs.Delivered.{placeFor, workFor, unseal-run-eq, shown-eq}
 use Rattle.channel.proofs.Ends.{ready-same, ready-other}
 
 -- ---- what is open of a sealed frame, without a key
+
+-- how many bytes are open: up to where reading finds the encrypted data or the MAC
+open-end : (q : Asked) (t : Tail) (e : Bool) → q .encrypt ≡ e → totalOf q - secretFor e (q .payload) ≡ secretFrom e (fieldsWith q t)
+open-end q t true p = rw p (omega arith)
+open-end q t false p = omega arith
+
 unfoldable pub openFor : Bool → Asked → List ℕ
 openFor true q = headWith q
 openFor false q = headWith q ++ q .payload
 
 module _ (k : SessionKeys) (v : List ℕ) (q : Asked) (hk : GoodKeys k) (hv : Block v) (h : Sealable q) where
   open-part : (e : Bool) → q .encrypt ≡ e
-      → take (totalOf q - (encryptedLen e (q .payload) + 4 + 2)) (sealedFrame k v q .bytes) ≡ openFor e q
+      → take (totalOf q - secretFor e (q .payload)) (sealedFrame k v q .bytes) ≡ openFor e q
   unfolding openFor
   open-part true p =
-      let n : totalOf q - (dataLenFor true (q .payload) + 4 + 2) ≡ 8 = rw p (omega arith) in
+      let n : totalOf q - secretFor true (q .payload) ≡ 8 = rw p (omega arith) in
       rw n (head-alone k v q hk hv h)
   open-part false p =
-      let n : totalOf q - (0 + 4 + 2) ≡ 8 + length (q .payload) = rw p (unfold dataLenFor in (omega arith)) in
+      let n : totalOf q - secretFor false (q .payload) ≡ 8 + length (q .payload) = rw p (unfold dataLenFor in (omega arith)) in
       rw n (plain-alone k v q hk hv h p)
-
--- how many bytes that is: up to where reading finds the encrypted data or the MAC
-open-end : (q : Asked) (t : Tail) (e : Bool) → q .encrypt ≡ e → totalOf q - (encryptedLen e (q .payload) + 4 + 2) ≡ secretFrom e (fieldsWith q t)
-open-end q t true p = rw p (omega arith)
-open-end q t false p = omega arith
 
 -- ---- what an event is, said without keys, random numbers and encrypted contents
 pub record Heard (s : Send) (e : Event) : Type 0 where

@@ -79,8 +79,11 @@ abbrev pub encryptedLen : Bool → List ℕ → ℕ
 encryptedLen true x = dataLenFor true x
 encryptedLen false x = 0
 
+abbrev pub secretFor : Bool → List ℕ → ℕ
+secretFor e x = encryptedLen e x + 4 + 2
+
 abbrev pub secretLen : Send → ℕ
-secretLen s = encryptedLen (s .encrypt) (s .payload) + 4 + 2
+secretLen s = secretFor (s .encrypt) (s .payload)
 
 -- all bytes but those
 abbrev pub openBytes : Send → List ℕ → List ℕ

@@ -104,7 +104,6 @@ sendOf e a n h c x o w = record { who = e; addr = a .0; sqn = n .0; code = c; en
 
 abbrev pub transferTold : Transferred → List ℕ → List ℕ → Moved
 transferTold r o w =
-    let f = onLine (lengthAnswer (r .sealed)) o in
     record {
       from = r .from;
       to = r .to;
@@ -113,9 +112,9 @@ transferTold r o w =
       place = placeAnswer (r .opened);
       event = record {
         sealed = lengthAnswer (r .sealed);
-        frame = f;
+        frame = onLine (lengthAnswer (r .sealed)) o;
         sealCalls = r .«seal_calls»;
-        opened = showing f w (placeAnswer (r .opened));
+        opened = showing (onLine (lengthAnswer (r .sealed)) o) w (placeAnswer (r .opened));
         openCalls = r .«open_calls»;
       };
     }

@@ -1,21 +1,35 @@
-// Two conversations that agree on all that stands open on the line, and differ in keys, random numbers and encrypted contents. Each
-// frame is told by its length, its open bytes and its cipher calls, so the two listings below each other are the same: what the
-// theorem of crate `channel` says, seen to happen.
-use libc::STDOUT_FILENO;
+// Conversations that agree on all that stands open on the line, and differ in keys, random numbers, encrypted contents, buffers, and in
+// what their ends went through before. Every frame goes by `channel::carry` or `channel::transfer`, whose promises are the definitions
+// that the theorem of crate `channel` is over. Each sealed frame is told by its length, its open bytes and its cipher calls, so the
+// listings are the same: what the theorem says, seen to happen.
+mod print;
+mod shake;
+
+use channel::Transferred;
 use packet_head::Address;
 use packet_head::Sqn;
 use packet_head::SqnAnswer;
+use print::put;
+use print::put_number;
+use print::put_open;
+use print::put_outcome;
+use print::put_refused;
+use print::put_yes;
 use refusal::LengthAnswer;
-use refusal::Outcome;
-use secure_seal::Direction;
-use secure_seal::Sealed;
+use secure_session::End;
 use secure_session::Session;
 use secure_unseal::PlaceAnswer;
+use shake::Ends;
+use shake::Making;
+use shake::at_most;
+use shake::shake;
 
-// Both ends of a conversation.
-struct Ends {
-    controller: Session,
-    reader: Session,
+// What is asked of a sealed frame, its payload apart.
+struct Asked {
+    who: End,
+    sqn: u8,
+    encrypt: bool,
+    code: u8,
 }
 
 // The end that sent a frame and the one that took it.
@@ -24,201 +38,230 @@ struct Passed {
     to: Session,
 }
 
-fn put(text: &[u8]) {
-    io::write_all(STDOUT_FILENO, text);
-}
-
-fn put_number(n: usize) {
-    io::print_decimal(STDOUT_FILENO, n as u64);
-}
-
-fn wide(b: u8) -> usize {
-    b as usize
-}
-
-// The first n bytes of a frame, in decimal.
-fn put_bytes(frame: &[u8], n: usize) {
-    let mut i = 0;
-    while i < n {
-        if i < frame.len() {
-            put(b" ");
-            put_number(wide(frame[i]));
+// The frame on the line, as all can read it, and how often sealing called the cipher.
+fn tell_sealed(t: Transferred, frame: &[u8]) {
+    let sealed = t.sealed;
+    match sealed {
+        LengthAnswer::Of(len) => {
+            put_number(len);
+            put(b" bytes, open:");
+            put_open(frame);
+            put(b", sealed by ");
+            put_number(t.seal_calls);
+            put(b" calls");
         }
-        i += 1;
+        LengthAnswer::Refused(e) => {
+            put(b"sealed:");
+            put_refused(e);
+        }
     }
 }
 
-fn put_yes(right: bool) {
-    if right {
-        put(b" yes");
-    } else {
-        put(b" no");
-    }
-}
-
-fn done(o: Outcome) -> bool {
-    match o {
-        Outcome::Done => true,
-        Outcome::Refused(_) => false,
-    }
-}
-
-// The handshake: each message is handed over as it was made.
-fn shake(scbk: [u8; 16], cuid: [u8; 8], rnd_a: [u8; 8], rnd_b: [u8; 8]) -> Ends {
-    let c = Session::new(scbk).challenge(rnd_a);
-    let r = Session::new_reader(scbk, cuid).receive_challenge(rnd_a, rnd_b);
-    let client = r.block;
-    let challenged = c.session;
-    let met = challenged.receive_ccrypt(cuid, rnd_b, client);
-    let known = met.session;
-    let server = known.server_cryptogram();
-    let cryptogram = server.block;
-    let asked = r.session;
-    let last = asked.receive_scrypt(cryptogram);
-    let first = last.block;
-    let ready = known.confirm_rmac_i(first);
-    let client_right = met.outcome;
-    let server_right = last.outcome;
-    let first_right = ready.outcome;
-    put(b"handshake:");
-    put_yes(done(client_right));
-    put_yes(done(server_right));
-    put_yes(done(first_right));
-    put(b"\n");
-    let controller = ready.session;
-    let reader = last.session;
-    Ends { controller, reader }
-}
-
-// Opens what is on the line at the other end, and tells whether the payload came as it was sent.
-fn take(to: Session, frame: &[u8], payload: &[u8]) -> Session {
-    let mut work = [0u8; 64];
-    let u = secure_unseal::unseal(to, frame, &mut work);
-    let place = u.answer;
-    put(b", opened by ");
-    put_number(u.calls);
-    put(b" calls, as sent:");
-    match place {
+// What the peer made of it, and whether the payload is the one that was sent.
+fn tell_opened<'a>(t: Transferred, frame: &'a [u8], work: &'a [u8], payload: &[u8]) {
+    let opened = t.opened;
+    match opened {
         PlaceAnswer::Payload {
             in_work,
             start,
             len,
         } => {
-            let shown = secure_unseal::payload(frame, &work, in_work, start, len);
+            put(b", opened by ");
+            put_number(t.open_calls);
+            put(b" calls, as sent:");
+            let shown = secure_unseal::payload(frame, work, in_work, start, len);
             put_yes(check::same(shown, payload));
         }
-        PlaceAnswer::Refused(_) => put_yes(false),
+        PlaceAnswer::Refused(e) => {
+            put(b", opened:");
+            put_refused(e);
+        }
     }
     put(b"\n");
-    u.session
 }
 
-fn not_sent(from: Session, to: Session) -> Passed {
-    put(b"refused\n");
-    Passed { from, to }
-}
-
-// What was sealed goes over the line, and its first `open` bytes stand open there.
-fn deliver(s: Sealed, to: Session, payload: &[u8], open: usize, out: &[u8]) -> Passed {
-    let sealed = s.answer;
-    let from = s.session;
-    match sealed {
-        LengthAnswer::Of(len) => {
-            if out.len() < len {
-                return not_sent(from, to);
-            }
-            put_number(len);
-            put(b" bytes, open:");
-            put_bytes(&out[..len], open);
-            put(b", sealed by ");
-            put_number(s.calls);
-            put(b" calls");
-            let peer = take(to, &out[..len], payload);
-            Passed { from, to: peer }
-        }
-        LengthAnswer::Refused(_) => not_sent(from, to),
-    }
-}
-
-// One frame: sealed at one end, opened at the other.
+// One frame from one end to the other, through buffers that hold something else before.
 fn pass(
     from: Session,
     to: Session,
-    n: u8,
-    direction: Direction,
-    encrypt: bool,
-    code: u8,
+    a: Asked,
+    sqn: Sqn,
+    addr: u8,
     payload: &[u8],
-    open: usize,
+    m: Making,
 ) -> Passed {
-    let mut out = [0u8; 64];
-    let address = Address::from_raw(5);
-    match Sqn::new(n) {
-        SqnAnswer::Good(sqn) => {
-            let s = secure_seal::seal(
-                from,
-                address,
-                sqn,
-                direction,
-                encrypt,
-                code,
-                payload,
-                &mut out,
-            );
-            deliver(s, to, payload, open, &out)
-        }
-        SqnAnswer::Refused(_) => not_sent(from, to),
+    let mut out = [0xEEu8; 256];
+    let mut work = [0xDDu8; 64];
+    let n = at_most(m.room, 256);
+    let k = at_most(m.held, 64);
+    let who = a.who;
+    let address = Address::from_raw(addr);
+    let t = channel::transfer(
+        from,
+        to,
+        who,
+        address,
+        sqn,
+        a.encrypt,
+        a.code,
+        payload,
+        &mut out[..n],
+        &mut work[..k],
+    );
+    let sealed = t.sealed;
+    tell_sealed(t, channel::on_line(&out[..n], sealed));
+    tell_opened(t, channel::on_line(&out[..n], sealed), &work, payload);
+    let sender = t.from;
+    let peer = t.to;
+    Passed {
+        from: sender,
+        to: peer,
     }
 }
 
-// A plain frame from each end, with the same contents in every conversation.
-fn talk_plain(ends: Ends) -> Ends {
-    let c0 = ends.controller;
-    let r0 = ends.reader;
-    let poll = pass(c0, r0, 1, Direction::AcuToPd, false, 0x60, b"", 8);
-    let c1 = poll.from;
-    let r1 = poll.to;
-    let closed = b"\x00\x01 closed";
-    let status = pass(r1, c1, 1, Direction::PdToAcu, false, 0x48, closed, 17);
-    let reader = status.from;
-    let controller = status.to;
+// The reader's frames have the reply flag on its address.
+fn send(ends: Ends, a: Asked, payload: &[u8], m: Making) -> Ends {
+    let c = ends.controller;
+    let r = ends.reader;
+    let who = a.who;
+    let SqnAnswer::Good(sqn) = Sqn::new(a.sqn) else {
+        put(b"no such sequence number\n");
+        return ends;
+    };
+    match who {
+        End::Controller => {
+            let p = pass(c, r, a, sqn, 0x05, payload, m);
+            let controller = p.from;
+            let reader = p.to;
+            Ends { controller, reader }
+        }
+        End::Reader => {
+            let p = pass(r, c, a, sqn, 0x85, payload, m);
+            let controller = p.to;
+            let reader = p.from;
+            Ends { controller, reader }
+        }
+    }
+}
+
+fn plain(ends: Ends, who: End, sqn: u8, code: u8, payload: &[u8], m: Making) -> Ends {
+    let encrypt = false;
+    let a = Asked {
+        who,
+        sqn,
+        encrypt,
+        code,
+    };
+    send(ends, a, payload, m)
+}
+
+fn hidden(ends: Ends, who: End, sqn: u8, code: u8, payload: &[u8], m: Making) -> Ends {
+    let encrypt = true;
+    let a = Asked {
+        who,
+        sqn,
+        encrypt,
+        code,
+    };
+    send(ends, a, payload, m)
+}
+
+// Each end sends twice in a row. The last frame but one finds no room at the sender, nothing goes over the line, and all goes on.
+fn talk(ends: Ends, lamp: &[u8], badge: &[u8], m: Making) -> Ends {
+    let short = Making {
+        crc: m.crc,
+        room: 13,
+        held: m.held,
+    };
+    let e1 = plain(ends, End::Controller, 1, 0x60, b"", m);
+    let e2 = hidden(e1, End::Controller, 2, 0x69, lamp, m);
+    let e3 = plain(e2, End::Reader, 2, 0x48, b"\x00\x01 closed", m);
+    let e4 = hidden(e3, End::Reader, 2, 0x50, badge, m);
+    let e5 = plain(e4, End::Controller, 3, 0x60, b"", short);
+    hidden(e5, End::Controller, 3, 0x60, b"", m)
+}
+
+// Ends whose handshake has failed: a wrong cryptogram each.
+fn failed(ends: Ends) -> Ends {
+    put(b"a handshake before:");
+    let controller = ends.controller;
+    let reader = ends.reader;
+    let asked = controller.challenge(*b"random.A");
+    let told = reader.receive_challenge(*b"random.A", *b"random.B");
+    let challenged = asked.session;
+    let derived = told.session;
+    let met = challenged.receive_ccrypt(*b"cabinet7", *b"random.B", [0; 16]);
+    let last = derived.receive_scrypt([0; 16]);
+    let client = met.outcome;
+    let server = last.outcome;
+    put_outcome(client);
+    put_outcome(server);
+    put(b"\n");
+    let c = met.session;
+    let r = last.session;
+    Ends {
+        controller: c,
+        reader: r,
+    }
+}
+
+fn fresh(scbk: [u8; 16]) -> Ends {
+    let controller = Session::new(scbk);
+    let reader = Session::new_reader(scbk, *b"cabinet7");
     Ends { controller, reader }
 }
 
-// Three encrypted ones.
-fn talk_hidden(ends: Ends, lamp: &[u8], badge: &[u8]) {
-    let c0 = ends.controller;
-    let r0 = ends.reader;
-    let lit = pass(c0, r0, 2, Direction::AcuToPd, true, 0x69, lamp, 8);
-    let c1 = lit.from;
-    let r1 = lit.to;
-    let read = pass(r1, c1, 2, Direction::PdToAcu, true, 0x50, badge, 8);
-    let r2 = read.from;
-    let c2 = read.to;
-    pass(c2, r2, 3, Direction::AcuToPd, true, 0x60, b"", 8);
+// A conversation in which every buffer is just as long as its largest frame and its longest encrypted data.
+fn first() -> Ends {
+    put(b"conversation 1\n");
+    let m = Making {
+        crc: true,
+        room: 46,
+        held: 32,
+    };
+    let ends = fresh(*b"key of cabinet 7");
+    let ready = shake(ends, m, *b"random.A", *b"random.B", *b"cabinet7");
+    talk(ready, b"a red lamp, 3 s", b"badge 00112233 A", m)
 }
 
-// A conversation: the handshake, then five frames from either end.
-fn talk(scbk: [u8; 16], rnd_a: [u8; 8], rnd_b: [u8; 8], lamp: &[u8], badge: &[u8]) {
-    let ends = talk_plain(shake(scbk, *b"cabinet7", rnd_a, rnd_b));
-    talk_hidden(ends, lamp, badge);
+// Another key, after a handshake that failed; the handshake's frames have a checksum.
+fn second() -> Ends {
+    put(b"conversation 2\n");
+    let m = Making {
+        crc: false,
+        room: 99,
+        held: 48,
+    };
+    let ends = failed(fresh(*b"another key here"));
+    let ready = shake(ends, m, *b"12345678", *b"87654321", *b"cabinet7");
+    talk(ready, b"green, 10 times", b"badge 99887766 Z", m)
+}
+
+// The ends of the second, wiped: their key is zeros, and so is the reader's cUID.
+fn third(ends: Ends) {
+    put(b"conversation 3\n");
+    let m = Making {
+        crc: true,
+        room: 256,
+        held: 64,
+    };
+    let c = ends.controller;
+    let r = ends.reader;
+    let controller = c.wipe();
+    let reader = r.wipe();
+    let wiped = Ends { controller, reader };
+    let ready = shake(
+        wiped,
+        m,
+        *b"\x00\x01\x02\x03\x04\x05\x06\x07",
+        *b"abcdefgh",
+        [0; 8],
+    );
+    talk(ready, b"off for an hour", b"badge 31415926 P", m);
 }
 
 fn main() {
-    put(b"conversation 1\n");
-    talk(
-        *b"key of cabinet 7",
-        *b"random.A",
-        *b"random.B",
-        b"a red lamp, 3 s",
-        b"badge 00112233 A",
-    );
-    put(b"conversation 2\n");
-    talk(
-        *b"another key here",
-        *b"12345678",
-        *b"87654321",
-        b"green, 10 times",
-        b"badge 99887766 Z",
-    );
+    first();
+    let used = second();
+    third(used);
 }

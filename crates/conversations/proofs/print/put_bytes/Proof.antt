@@ -2,8 +2,8 @@
 -- Assumes nothing.
 use Prim.Native.Nat.{_-_, _≤_}
 use borrow.Author.Needs.{needs}
-use Rattle.conversations.proofs.put_bytes.Statement.{statement}
-use Rattle.conversations.proofs.put_bytes.Tie as tie
+use Rattle.conversations.proofs.print.put_bytes.Statement.{statement}
+use Rattle.conversations.proofs.print.put_bytes.Tie as tie
 
 abbrev Inv-loop : tie.InvT-loop
 Inv-loop frame n i₀ t4 i = i ≤ n
