@@ -20,8 +20,7 @@ use secure_session::End;
 use secure_session::Session;
 use secure_unseal::PlaceAnswer;
 use shake::Ends;
-use shake::Making;
-use shake::at_most;
+use shake::Room;
 use shake::shake;
 
 // What is asked of a sealed frame, its payload apart.
@@ -57,8 +56,11 @@ fn tell_sealed(t: Transferred, frame: &[u8]) {
     }
 }
 
-// What the peer made of it, and whether the payload is the one that was sent.
-fn tell_opened<'a>(t: Transferred, frame: &'a [u8], work: &'a [u8], payload: &[u8]) {
+// What came of a frame at either end, and whether the payload is the one that was sent.
+fn tell<'a>(t: Transferred, payload: &[u8], out: &'a [u8], work: &'a [u8]) {
+    let sealed = t.sealed;
+    let frame = channel::on_line(out, sealed);
+    tell_sealed(t, frame);
     let opened = t.opened;
     match opened {
         PlaceAnswer::Payload {
@@ -80,7 +82,7 @@ fn tell_opened<'a>(t: Transferred, frame: &'a [u8], work: &'a [u8], payload: &[u
     put(b"\n");
 }
 
-// One frame from one end to the other, through buffers that hold something else before.
+// One frame from one end to the other.
 fn pass(
     from: Session,
     to: Session,
@@ -88,12 +90,9 @@ fn pass(
     sqn: Sqn,
     addr: u8,
     payload: &[u8],
-    m: Making,
+    out: &mut [u8],
+    work: &mut [u8],
 ) -> Passed {
-    let mut out = [0xEEu8; 256];
-    let mut work = [0xDDu8; 64];
-    let n = at_most(m.room, 256);
-    let k = at_most(m.held, 64);
     let who = a.who;
     let address = Address::from_raw(addr);
     let t = channel::transfer(
@@ -105,12 +104,10 @@ fn pass(
         a.encrypt,
         a.code,
         payload,
-        &mut out[..n],
-        &mut work[..k],
+        out,
+        work,
     );
-    let sealed = t.sealed;
-    tell_sealed(t, channel::on_line(&out[..n], sealed));
-    tell_opened(t, channel::on_line(&out[..n], sealed), &work, payload);
+    tell(t, payload, out, work);
     let sender = t.from;
     let peer = t.to;
     Passed {
@@ -119,24 +116,63 @@ fn pass(
     }
 }
 
+// The same through buffers that hold something else before.
+fn lend(
+    from: Session,
+    to: Session,
+    a: Asked,
+    sqn: Sqn,
+    addr: u8,
+    payload: &[u8],
+    room: Room,
+) -> Passed {
+    match room {
+        Room::Exact => {
+            let mut out = [0xEEu8; 46];
+            let mut work = [0xDDu8; 32];
+            pass(from, to, a, sqn, addr, payload, &mut out, &mut work)
+        }
+        Room::More => {
+            let mut out = [0xEEu8; 99];
+            let mut work = [0xDDu8; 48];
+            pass(from, to, a, sqn, addr, payload, &mut out, &mut work)
+        }
+        Room::Any => {
+            let mut out = [0xEEu8; 1440];
+            let mut work = [0xDDu8; 1440];
+            pass(from, to, a, sqn, addr, payload, &mut out, &mut work)
+        }
+        Room::TooLittle => {
+            let mut out = [0xEEu8; 13];
+            let mut work = [0xDDu8; 32];
+            pass(from, to, a, sqn, addr, payload, &mut out, &mut work)
+        }
+    }
+}
+
 // The reader's frames have the reply flag on its address.
-fn send(ends: Ends, a: Asked, payload: &[u8], m: Making) -> Ends {
+fn send(ends: Ends, a: Asked, payload: &[u8], room: Room) -> Ends {
     let c = ends.controller;
     let r = ends.reader;
     let who = a.who;
-    let SqnAnswer::Good(sqn) = Sqn::new(a.sqn) else {
-        put(b"no such sequence number\n");
-        return ends;
+    let sqn = match Sqn::new(a.sqn) {
+        SqnAnswer::Good(n) => n,
+        SqnAnswer::Refused(e) => {
+            put(b"not sent:");
+            put_refused(e);
+            put(b"\n");
+            return ends;
+        }
     };
     match who {
         End::Controller => {
-            let p = pass(c, r, a, sqn, 0x05, payload, m);
+            let p = lend(c, r, a, sqn, 0x05, payload, room);
             let controller = p.from;
             let reader = p.to;
             Ends { controller, reader }
         }
         End::Reader => {
-            let p = pass(r, c, a, sqn, 0x85, payload, m);
+            let p = lend(r, c, a, sqn, 0x85, payload, room);
             let controller = p.to;
             let reader = p.from;
             Ends { controller, reader }
@@ -144,41 +180,29 @@ fn send(ends: Ends, a: Asked, payload: &[u8], m: Making) -> Ends {
     }
 }
 
-fn plain(ends: Ends, who: End, sqn: u8, code: u8, payload: &[u8], m: Making) -> Ends {
-    let encrypt = false;
-    let a = Asked {
+fn asks(who: End, sqn: u8, encrypt: bool, code: u8) -> Asked {
+    Asked {
         who,
         sqn,
         encrypt,
         code,
-    };
-    send(ends, a, payload, m)
+    }
 }
 
-fn hidden(ends: Ends, who: End, sqn: u8, code: u8, payload: &[u8], m: Making) -> Ends {
-    let encrypt = true;
-    let a = Asked {
-        who,
-        sqn,
-        encrypt,
-        code,
-    };
-    send(ends, a, payload, m)
-}
-
-// Each end sends twice in a row. The last frame but one finds no room at the sender, nothing goes over the line, and all goes on.
-fn talk(ends: Ends, lamp: &[u8], badge: &[u8], m: Making) -> Ends {
-    let short = Making {
-        crc: m.crc,
-        room: 13,
-        held: m.held,
-    };
-    let e1 = plain(ends, End::Controller, 1, 0x60, b"", m);
-    let e2 = hidden(e1, End::Controller, 2, 0x69, lamp, m);
-    let e3 = plain(e2, End::Reader, 2, 0x48, b"\x00\x01 closed", m);
-    let e4 = hidden(e3, End::Reader, 2, 0x50, badge, m);
-    let e5 = plain(e4, End::Controller, 3, 0x60, b"", short);
-    hidden(e5, End::Controller, 3, 0x60, b"", m)
+// Each end sends twice in a row. The last frame but one finds no room at its sender: nothing goes over the line, and all goes on.
+fn talk(ends: Ends, lamp: &[u8], badge: &[u8], room: Room) -> Ends {
+    let poll = asks(End::Controller, 1, false, 0x60);
+    let lit = asks(End::Controller, 2, true, 0x69);
+    let status = asks(End::Reader, 2, false, 0x48);
+    let card = asks(End::Reader, 2, true, 0x50);
+    let lost = asks(End::Controller, 3, false, 0x60);
+    let last = asks(End::Controller, 3, true, 0x60);
+    let e1 = send(ends, poll, b"", room);
+    let e2 = send(e1, lit, lamp, room);
+    let e3 = send(e2, status, b"\x00\x01 closed", room);
+    let e4 = send(e3, card, badge, room);
+    let e5 = send(e4, lost, b"", Room::TooLittle);
+    send(e5, last, b"", room)
 }
 
 // Ends whose handshake has failed: a wrong cryptogram each.
@@ -211,53 +235,32 @@ fn fresh(scbk: [u8; 16]) -> Ends {
     Ends { controller, reader }
 }
 
-// A conversation in which every buffer is just as long as its largest frame and its longest encrypted data.
-fn first() -> Ends {
+// Fresh ends, and buffers just long enough for the largest frame and for the longest encrypted data.
+fn first() {
     put(b"conversation 1\n");
-    let m = Making {
-        crc: true,
-        room: 46,
-        held: 32,
-    };
     let ends = fresh(*b"key of cabinet 7");
-    let ready = shake(ends, m, *b"random.A", *b"random.B", *b"cabinet7");
-    talk(ready, b"a red lamp, 3 s", b"badge 00112233 A", m)
+    let ready = shake(ends, *b"random.A", *b"random.B", *b"cabinet7", Room::Exact);
+    talk(ready, b"a red lamp, 3 s", b"badge 00112233 A", Room::Exact);
 }
 
 // Another key, after a handshake that failed; the handshake's frames have a checksum.
 fn second() -> Ends {
     put(b"conversation 2\n");
-    let m = Making {
-        crc: false,
-        room: 99,
-        held: 48,
-    };
     let ends = failed(fresh(*b"another key here"));
-    let ready = shake(ends, m, *b"12345678", *b"87654321", *b"cabinet7");
-    talk(ready, b"green, 10 times", b"badge 99887766 Z", m)
+    let ready = shake(ends, *b"12345678", *b"87654321", *b"cabinet7", Room::More);
+    talk(ready, b"green, 10 times", b"badge 99887766 Z", Room::More)
 }
 
 // The ends of the second, wiped: their key is zeros, and so is the reader's cUID.
-fn third(ends: Ends) {
+fn third(used: Ends) {
     put(b"conversation 3\n");
-    let m = Making {
-        crc: true,
-        room: 256,
-        held: 64,
-    };
-    let c = ends.controller;
-    let r = ends.reader;
+    let c = used.controller;
+    let r = used.reader;
     let controller = c.wipe();
     let reader = r.wipe();
-    let wiped = Ends { controller, reader };
-    let ready = shake(
-        wiped,
-        m,
-        *b"\x00\x01\x02\x03\x04\x05\x06\x07",
-        *b"abcdefgh",
-        [0; 8],
-    );
-    talk(ready, b"off for an hour", b"badge 31415926 P", m);
+    let ends = Ends { controller, reader };
+    let ready = shake(ends, *b"01234567", *b"abcdefgh", [0; 8], Room::Any);
+    talk(ready, b"off for an hour", b"badge 31415926 P", Room::Any);
 }
 
 fn main() {

@@ -1,5 +1,4 @@
 // The handshake, each message in a frame that goes by `channel::carry`.
-ghost use Prim.Native.Nat.{_≤_};
 use super::print::put;
 use super::print::put_number;
 use super::print::put_outcome;
@@ -17,20 +16,15 @@ pub(crate) struct Ends {
     pub reader: Session,
 }
 
-// What need not agree: whether the handshake's frames have a CRC, and how many bytes of a sender's and of a peer's buffer are lent.
-pub(crate) struct Making {
-    pub crc: bool,
-    pub room: usize,
-    pub held: usize,
+// Whose buffers are lent: just long enough, longer, or as long as any frame of the line.
+pub(crate) enum Room {
+    Exact,
+    More,
+    Any,
+    TooLittle,
 }
 
-pub(crate) fn at_most(n: usize, most: usize) -> usize
-    ensures { λ r. ⌜ r ≤ most ⌝ }
-{
-    if n < most { n } else { most }
-}
-
-// Bytes of a message that is as long as it must be, or zeros.
+// Bytes that are there, or zeros.
 fn eight(s: &[u8]) -> [u8; 8] {
     if s.len() < 8 {
         return [0; 8];
@@ -38,9 +32,8 @@ fn eight(s: &[u8]) -> [u8; 8] {
     [s[0], s[1], s[2], s[3], s[4], s[5], s[6], s[7]]
 }
 
-fn sixteen(s: &[u8]) -> [u8; 16] {
-    let a = eight(packet_view::part(s, 0, 8));
-    let b = eight(packet_view::part(s, 8, 8));
+// Four times eight bytes, one after the other.
+fn joined(a: [u8; 8], b: [u8; 8], c: [u8; 8], d: [u8; 8]) -> [u8; 32] {
     [
         a[0],
         a[1],
@@ -58,28 +51,77 @@ fn sixteen(s: &[u8]) -> [u8; 16] {
         b[5],
         b[6],
         b[7],
+        c[0],
+        c[1],
+        c[2],
+        c[3],
+        c[4],
+        c[5],
+        c[6],
+        c[7],
+        d[0],
+        d[1],
+        d[2],
+        d[3],
+        d[4],
+        d[5],
+        d[6],
+        d[7],
+    ]
+}
+
+fn part_of(m: [u8; 32], second: bool) -> [u8; 8] {
+    if second {
+        return [m[8], m[9], m[10], m[11], m[12], m[13], m[14], m[15]];
+    }
+    [m[0], m[1], m[2], m[3], m[4], m[5], m[6], m[7]]
+}
+
+fn first_block(m: [u8; 32]) -> [u8; 16] {
+    [
+        m[0],
+        m[1],
+        m[2],
+        m[3],
+        m[4],
+        m[5],
+        m[6],
+        m[7],
+        m[8],
+        m[9],
+        m[10],
+        m[11],
+        m[12],
+        m[13],
+        m[14],
+        m[15],
+    ]
+}
+
+fn second_block(m: [u8; 32]) -> [u8; 16] {
+    [
+        m[16],
+        m[17],
+        m[18],
+        m[19],
+        m[20],
+        m[21],
+        m[22],
+        m[23],
+        m[24],
+        m[25],
+        m[26],
+        m[27],
+        m[28],
+        m[29],
+        m[30],
+        m[31],
     ]
 }
 
 // cUID, RND.B and the client cryptogram, one after the other.
 fn reply_of(cuid: [u8; 8], rnd_b: [u8; 8], client: [u8; 16]) -> [u8; 32] {
-    [
-        cuid[0],
-        cuid[1],
-        cuid[2],
-        cuid[3],
-        cuid[4],
-        cuid[5],
-        cuid[6],
-        cuid[7],
-        rnd_b[0],
-        rnd_b[1],
-        rnd_b[2],
-        rnd_b[3],
-        rnd_b[4],
-        rnd_b[5],
-        rnd_b[6],
-        rnd_b[7],
+    let c = [
         client[0],
         client[1],
         client[2],
@@ -88,6 +130,8 @@ fn reply_of(cuid: [u8; 8], rnd_b: [u8; 8], client: [u8; 16]) -> [u8; 32] {
         client[5],
         client[6],
         client[7],
+    ];
+    let d = [
         client[8],
         client[9],
         client[10],
@@ -96,28 +140,12 @@ fn reply_of(cuid: [u8; 8], rnd_b: [u8; 8], client: [u8; 16]) -> [u8; 32] {
         client[13],
         client[14],
         client[15],
-    ]
+    ];
+    joined(cuid, rnd_b, c, d)
 }
 
-// A message from either end, and how many bytes of it the peer reads. Its block says that the key is the reader's own.
-fn say(
-    ty: ScsType,
-    addr: u8,
-    code: u8,
-    message: &[u8],
-    m: Making,
-    out: &mut [u8],
-) -> CarriedMessage {
-    let c = channel::carry(
-        ty,
-        Address::from_raw(addr),
-        Sqn::ZERO,
-        m.crc,
-        b"\x01",
-        code,
-        message,
-        out,
-    );
+// What the peer reads in the bytes that went over the line, with zeros after it; and how many bytes that is.
+fn read(out: &[u8], c: CarriedMessage) -> [u8; 32] {
     let sent = c.sent;
     match sent {
         LengthAnswer::Of(_) => {
@@ -126,66 +154,57 @@ fn say(
         }
         LengthAnswer::Refused(e) => put_refused(e),
     }
-    c
+    let line = channel::on_line(out, sent);
+    let message = packet_view::part(line, c.start, c.len);
+    let w = eight(packet_view::part(message, 0, 8));
+    let x = eight(packet_view::part(message, 8, 8));
+    let y = eight(packet_view::part(message, 16, 8));
+    let z = eight(packet_view::part(message, 24, 8));
+    joined(w, x, y, z)
 }
 
-// What the peer reads, in the bytes that went over the line.
-fn read(out: &[u8], c: CarriedMessage) -> &[u8] {
-    let sent = c.sent;
-    packet_view::part(channel::on_line(out, sent), c.start, c.len)
+// A message in a frame whose block says that the key is the reader's own.
+fn say(ty: ScsType, addr: u8, code: u8, message: &[u8], crc: bool, out: &mut [u8]) -> [u8; 32] {
+    let address = Address::from_raw(addr);
+    let c = channel::carry(ty, address, Sqn::ZERO, crc, b"\x01", code, message, out);
+    read(out, c)
 }
 
-// 11: the controller challenges, the reader derives its keys. What it answers goes on.
-fn challenge(ends: Ends, m: Making, rnd_a: [u8; 8], rnd_b: [u8; 8], cuid: [u8; 8]) -> Ends {
-    let mut out = [0xEEu8; 256];
-    let n = at_most(m.room, 256);
-    let controller = ends.controller;
-    let reader = ends.reader;
-    let asked = controller.challenge(rnd_a);
-    let sent = say(ScsType::Scs11, 0x05, 0x76, &rnd_a, m, &mut out[..n]);
-    let heard = eight(read(&out, sent));
-    let told = reader.receive_challenge(heard, rnd_b);
-    let client = told.block;
-    let challenged = asked.session;
-    let derived = told.session;
-    let asked_right = asked.outcome;
-    let told_right = told.outcome;
-    put_outcome(asked_right);
-    put_outcome(told_right);
-    answer(challenged, derived, m, reply_of(cuid, rnd_b, client))
-}
-
-// 12: the reader answers, and the controller derives its keys and tests the client cryptogram.
-fn answer(controller: Session, reader: Session, m: Making, reply: [u8; 32]) -> Ends {
-    let mut out = [0xEEu8; 256];
-    let n = at_most(m.room, 256);
-    let sent = say(ScsType::Scs12, 0x85, 0x76, &reply, m, &mut out[..n]);
-    let heard = read(&out, sent);
-    let cuid = eight(packet_view::part(heard, 0, 8));
-    let rnd_b = eight(packet_view::part(heard, 8, 8));
-    let client = sixteen(packet_view::part(heard, 16, 16));
-    let met = controller.receive_ccrypt(cuid, rnd_b, client);
-    let right = met.outcome;
-    put_outcome(right);
-    let known = met.session;
-    prove(known, reader, m)
+// The same through a buffer that holds something else before; what the peer reads.
+fn pass(ty: ScsType, addr: u8, code: u8, message: &[u8], room: Room) -> [u8; 32] {
+    match room {
+        Room::Exact => {
+            let mut out = [0xEEu8; 43];
+            say(ty, addr, code, message, true, &mut out)
+        }
+        Room::More => {
+            let mut out = [0xEEu8; 99];
+            say(ty, addr, code, message, false, &mut out)
+        }
+        Room::Any => {
+            let mut out = [0xEEu8; 1440];
+            say(ty, addr, code, message, true, &mut out)
+        }
+        Room::TooLittle => {
+            let mut out = [0xEEu8; 13];
+            say(ty, addr, code, message, true, &mut out)
+        }
+    }
 }
 
 // 13: the controller proves that it has the key. 14: the reader answers the first chain value.
-fn prove(controller: Session, reader: Session, m: Making) -> Ends {
-    let mut out = [0xEEu8; 256];
-    let n = at_most(m.room, 256);
+fn prove(controller: Session, reader: Session, room: Room) -> Ends {
     let server = controller.server_cryptogram();
     let cryptogram = server.block;
     let made = server.outcome;
     put_outcome(made);
-    let sent = say(ScsType::Scs13, 0x05, 0x77, &cryptogram, m, &mut out[..n]);
-    let last = reader.receive_scrypt(sixteen(read(&out, sent)));
+    let sent = pass(ScsType::Scs13, 0x05, 0x77, &cryptogram, room);
+    let last = reader.receive_scrypt(first_block(sent));
     let found = last.outcome;
     put_outcome(found);
     let first = last.block;
-    let back = say(ScsType::Scs14, 0x85, 0x78, &first, m, &mut out[..n]);
-    let ready = controller.confirm_rmac_i(sixteen(read(&out, back)));
+    let back = pass(ScsType::Scs14, 0x85, 0x78, &first, room);
+    let ready = controller.confirm_rmac_i(first_block(back));
     let confirmed = ready.outcome;
     put_outcome(confirmed);
     let c = ready.session;
@@ -196,9 +215,35 @@ fn prove(controller: Session, reader: Session, m: Making) -> Ends {
     }
 }
 
-pub(crate) fn shake(ends: Ends, m: Making, rnd_a: [u8; 8], rnd_b: [u8; 8], cuid: [u8; 8]) -> Ends {
+// 12: the reader answers; the controller derives its keys and tests the client cryptogram.
+fn answer(controller: Session, reader: Session, reply: [u8; 32], room: Room) -> Ends {
+    let sent = pass(ScsType::Scs12, 0x85, 0x76, &reply, room);
+    let cuid = part_of(sent, false);
+    let rnd_b = part_of(sent, true);
+    let met = controller.receive_ccrypt(cuid, rnd_b, second_block(sent));
+    let right = met.outcome;
+    put_outcome(right);
+    let known = met.session;
+    prove(known, reader, room)
+}
+
+// 11: the controller challenges, and the reader derives its keys; then the rest. For each message the number of bytes that the peer
+// reads, for each of the six calls what it answers.
+pub(crate) fn shake(ends: Ends, rnd_a: [u8; 8], rnd_b: [u8; 8], cuid: [u8; 8], room: Room) -> Ends {
     put(b"handshake:");
-    let done = challenge(ends, m, rnd_a, rnd_b, cuid);
+    let controller = ends.controller;
+    let reader = ends.reader;
+    let asked = controller.challenge(rnd_a);
+    let asked_right = asked.outcome;
+    put_outcome(asked_right);
+    let sent = pass(ScsType::Scs11, 0x05, 0x76, &rnd_a, room);
+    let told = reader.receive_challenge(part_of(sent, false), rnd_b);
+    let told_right = told.outcome;
+    put_outcome(told_right);
+    let client = told.block;
+    let challenged = asked.session;
+    let derived = told.session;
+    let done = answer(challenged, derived, reply_of(cuid, rnd_b, client), room);
     put(b"\n");
     done
 }
