@@ -5,3 +5,4 @@ pub mod Locals
 pub mod Passed
 pub mod Passing
 pub mod Wrapper
+pub mod Settled

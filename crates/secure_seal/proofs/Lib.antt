@@ -1,5 +1,6 @@
 pub mod SealLaws
 pub mod SealCases
+pub mod SealCalls
 pub mod Settled
 pub mod Worked
 mod Places
