@@ -15,6 +15,9 @@ use std::collections::BTreeMap;
 use store::Store;
 use wire::{NAMES, Ours};
 
+/// A call, what it was handed, the Rust's answer and ours.
+type Difference = (u8, Vec<u8>, Vec<u8>, Vec<u8>);
+
 /// Sends requests in batches and compares what comes back.
 pub struct Compare {
     ours: Option<Ours>,
@@ -26,7 +29,7 @@ pub struct Compare {
     intended: BTreeMap<&'static str, u64>,
     refused: BTreeMap<(u8, u8), u64>,
     wrong: u64,
-    smallest: Option<(u8, Vec<u8>, Vec<u8>, Vec<u8>)>,
+    smallest: Option<Difference>,
     paper: Tally,
 }
 
