@@ -9,7 +9,6 @@ use native.Mathlib.Omega.{arith}
 use borrow.Author.Tests.{eqb-true}
 use lib.Dec.{ltb, eqb}
 use lib.ListN.{length, getD, take, drop}
-use lib.Seq.{length-take-le}
 use Rattle.laws.specs.Answer.{Answer, Answer.given, Answer.refused}
 use Rattle.laws.specs.Blocks.{blocks}
 use Rattle.laws.specs.Bytes.{compl}
@@ -23,13 +22,14 @@ use Rattle.packet_parse.specs.Frame.{Fields, BlockAt, BlockAt.noBlock, BlockAt.
 use Rattle.secure_cipher.specs.Pad.{unpad, unpadFrom}
 use Rattle.secure_cipher.specs.Cbc.{Opening, reveal}
 use Rattle.secure_cipher.proofs.CbcLaws.{dec-steps}
-use Rattle.secure_cipher.proofs.MacLaws.{mac-steps}
+use Rattle.secure_cipher.specs.Mac.{macCalls}
 use Rattle.secure_keys.specs.declared.crypto.SessionKeys.{SessionKeys}
 use Rattle.secure_session.specs.Session.{isSecure, recvFrom}
 use Rattle.secure_session.specs.declared.session.Session.{Session}
 use Rattle.secure_unseal.specs.Unseal.{Checked, UnsealRun, check, openData, unsealPlain, unsealOpened, unsealHidden, unsealParsed, unsealRun, unsealOf}
-use Rattle.secure_unseal.specs.Calls.{unsealNumber, bodyLen, macCalls, dataCalls, unsealCallsOf}
+use Rattle.secure_unseal.specs.Calls.{unsealNumber, bodyLen, dataCalls, unsealCallsOf}
 use Rattle.secure_unseal.proofs.Inside.{mac-inside, data-inside}
+use Rattle.secure_unseal.proofs.Wiping.{check-counted}
 
 -- ---- where the MAC stands: after the body
 
@@ -141,22 +141,19 @@ module _ (k : SessionKeys) (v f : List ℕ) (p : Fields) (e : parseOf f ≡ give
     body-start : macStart (p .mac) ≡ bodyLen p
     body-start = ap macStart (holds-given Placed (parseOf f) p (parse-placed f) e) ∙ start-due (hasMac (typeIn (p .block))) (p .len) (trailerLen (p .ctrl .1)) due
 
-    check-steps : macCheck .steps ≡ macCalls p
-    unfolding check
-    check-steps =
-        mac-steps (k .«s_mac1») (k .«s_mac2») v (take (macStart (p .mac)) f)
-        ∙ ap (λ (n : ℕ). (n + 15) / 16) (length-take-le (macStart (p .mac)) f (omega (arith, mac-inside f p e due)) ∙ body-start)
+    check-steps : macCheck .steps ≡ macCalls (bodyLen p)
+    check-steps = sym (check-counted k v f (macStart (p .mac)) (omega (arith, mac-inside f p e due))) ∙ ap macCalls body-start
 
     plain-counted : isEncrypted (typeIn (p .block)) ≡ false → Counted (given p) (unsealPlain macCheck p w)
     unfolding unsealPlain unsealCallsOf
     plain-counted h =
-        let s : macCheck .steps ≡ dataCalls p + macCalls p = omega (arith, check-steps, no-data-steps h) in
+        let s : macCheck .steps ≡ dataCalls p + macCalls (bodyLen p) = omega (arith, check-steps, no-data-steps h) in
         counted-cond (given p) (macCheck .right) _ _ (λ _. s) (λ _. s)
 
     opened-counted : (o : Opening) (a : Answer ℕ) → By14 a → o .steps ≡ dataCalls p → Counted (given p) (unsealOpened macCheck (p .dataLen) o a w)
     unfolding unsealOpened unsealCallsOf
     opened-counted o (given l) h s =
-        let t : o .steps + macCheck .steps ≡ dataCalls p + macCalls p = omega (arith, s, check-steps) in
+        let t : o .steps + macCheck .steps ≡ dataCalls p + macCalls (bodyLen p) = omega (arith, s, check-steps) in
         counted-cond (given p) (macCheck .right) _ _ (λ _. t) (λ _. t)
     opened-counted o (refused m vs) h s = let n : m ≡ 14 = h m vs refl in rw n s
 

@@ -8,6 +8,7 @@ use Rattle.laws.specs.Answer.{Answer, Answer.given, Answer.refused}
 use Rattle.packet_head.specs.Block.{isEncrypted}
 use Rattle.packet_head.specs.Trailer.{trailerLen}
 use Rattle.packet_parse.specs.Frame.{Fields, typeIn}
+use Rattle.secure_cipher.specs.Mac.{macCalls}
 use Rattle.secure_unseal.specs.Unseal.{Place}
 
 -- 0 for a success, else the refusal's number
@@ -15,13 +16,9 @@ abbrev pub unsealNumber : Answer Place → ℕ
 unsealNumber (given x) = 0
 unsealNumber (refused n vs) = n
 
--- the body: LEN, less the MAC and the trailer
+-- what the MAC is over, the body: LEN, less the MAC and the trailer
 abbrev pub bodyLen : Fields → ℕ
 bodyLen p = p .len - 4 - trailerLen (p .ctrl .1)
-
--- for the MAC: one for each sixteen bytes of the body, and for what is left
-abbrev pub macCalls : Fields → ℕ
-macCalls p = (bodyLen p + 15) / 16
 
 -- for the data: one for each block of types 17 and 18; none where it has no whole blocks
 unfoldable pub dataCalls : Fields → ℕ
@@ -29,5 +26,5 @@ dataCalls p = cond (isEncrypted (typeIn (p .block))) (cond (eqb (p .dataLen % 16
 
 -- 14: the data's. A success, and 15: the data's and the MAC's. Any other refusal: none
 unfoldable pub unsealCallsOf : ℕ → Answer Fields → ℕ
-unsealCallsOf n (given p) = cond (eqb n 14) (dataCalls p) (cond (eqb n 0 || eqb n 15) (dataCalls p + macCalls p) 0)
+unsealCallsOf n (given p) = cond (eqb n 14) (dataCalls p) (cond (eqb n 0 || eqb n 15) (dataCalls p + macCalls (bodyLen p)) 0)
 unsealCallsOf n (refused m vs) = 0
