@@ -1,5 +1,5 @@
 mod Rounds
-mod RoundKey
+pub mod RoundKey
 mod Steps
 mod Halves
 mod KeyHalves
