@@ -4,12 +4,14 @@ use Prim.Native.Nat.{ℕ, _≤_}
 use mathlib.Core.Bool.{Bool, true}
 use mathlib.Core.List.{List, []}
 use lib.ListN.{length, take, drop}
+use denote.Ref.{RefT, now}
 use Rattle.laws.specs.Answer.{Answer, Answer.given, Answer.refused}
 use Rattle.laws.specs.Buffer.{sized, written}
 use Rattle.packet_head.specs.declared.header.Address.{Address}
 use Rattle.packet_head.specs.declared.header.Sqn.{Sqn}
 use Rattle.packet_parse.specs.Frame.{parseOf}
 use Rattle.packet_build.specs.Build.{FrameBlock.scb, Parts, totalN, buildOf}
+use Rattle.packet_view.specs.Stretch.{Stretch, stretchIn}
 use Rattle.packet_view.specs.View.{Part, placesOf, payloadOf}
 use Rattle.refusal.specs.Reading.{lengthAnswer}
 use Rattle.channel.specs.declared.messages.CarriedMessage.{CarriedMessage}
@@ -31,6 +33,10 @@ wireParts ty w x = record { addr = w .addr; ctrl = (w .sqn, w .useCrc, true); bl
 unfoldable pub onLine : Answer ℕ → List ℕ → List ℕ
 onLine (given n) o = take n o
 onLine (refused n vs) o = []
+
+-- as a slice: these bytes, from the buffer's first byte on
+abbrev pub lineSeen : Answer ℕ → RefT (List ℕ) → Stretch
+lineSeen a o = stretchIn o 0 (onLine a (now o))
 
 -- what the building answers, the buffer after it, and of what is then on the line: where the peer finds the message, and what it reads
 pub record Carriage : Type 0 where

@@ -5,6 +5,7 @@ use Rattle.secure_seal.specs.Seal.{askedOf, sealOf}
 use Rattle.secure_seal.specs.declared.frame.Direction.{Direction}
 use Rattle.channel.specs.Talk.{sendOf}
 use Rattle.channel.proofs.Calls.{transferred-as}
+use Rattle.packet_view.proofs.Stretches.{same-bytes}
 use borrow.Author.Needs.{needs}
 use Rattle.channel.proofs.frames.transfer.Statement.{statement}
 use Rattle.channel.proofs.frames.transfer.Tie as tie
@@ -19,7 +20,7 @@ returns c =
     transferred-as (a .from) (a .to) (sendOf (a .who) (a .addr) (a .sqn) (a .encrypt) (a .code) (a .payload .now) (a .out .now) (a .work .now)) (s .seal .result) (u .unseal .result) _ _ _
     (s .seal .ensures
     ∙ ap (λ (x : Direction). sealOf (a .from) (askedOf (a .addr) (a .sqn) x (a .encrypt) (a .code) (a .payload .now)) (a .out .now)) (d .direction-of .ensures))
-    (l .on-line .ensures)
+    (same-bytes (l .on-line .result) (l .on-line .ensures))
     (u .unseal .ensures)
 
 pub transfer-spec : {M : Type 1} → statement M

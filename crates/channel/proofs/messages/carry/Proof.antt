@@ -4,6 +4,7 @@ use Rattle.packet_head.specs.Block.{typeOf}
 use Rattle.packet_build.specs.declared.codec.GivenMac.{GivenMac}
 use Rattle.channel.specs.Carried.{wireOf}
 use Rattle.channel.proofs.Calls.{wire-given, carried-as}
+use Rattle.packet_view.proofs.Stretches.{same-bytes}
 use borrow.Author.Needs.{needs}
 use Rattle.channel.proofs.messages.carry.Statement.{statement}
 use Rattle.channel.proofs.messages.carry.Tie as tie
@@ -18,7 +19,7 @@ returns c =
     (wire-given (a .ty) (a .addr) (a .sqn) (a .use-crc) (a .block .now) (a .code) (a .out .now) (a .message .now) (n .new .result) (n .new .ensures))
     (b .build .ensures .0)
     (b .build .ensures .1)
-    (l .on-line .ensures)
+    (same-bytes (l .on-line .result) (l .on-line .ensures))
     (c .places-in .ensures)
 
 pub carry-spec : {M : Type 1} → statement M
