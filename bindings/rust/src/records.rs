@@ -1,5 +1,5 @@
 //! The records that cross the C interface, field for field as include/malstrink.h has them. They stand in a file of their own, without
-//! the functions, because oracle/timing takes them from here and calls by other prototypes.
+//! the functions, because oracle/timing takes them from here.
 //!
 //! Those that hold keys have no `Debug`, so that no key can be printed by mistake. Their `==` stops at the first difference: it is for
 //! oracle/timing, and this crate has `same`.
