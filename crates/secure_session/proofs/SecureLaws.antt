@@ -30,13 +30,13 @@ right-or false s t r e h =
     absurd (given-refused (ap (λ (o : Outcome). outcomeAnswer {A = Unit {0}} o tt) (sym h) ∙ ap (λ (x : Step (Unit {0})). x .answer) e))
 
 wrong-or : (b : Bool) (s t : Session) (r : Stepped) (x : Refusal) → stepped r ≡ verified b s t → r .outcome ≡ Outcome.Refused x
-    → (b ≡ false) × (numberOf x ≡ 15) × (valuesOf x ≡ [])
+    → (b ≡ false) × (numberOf x ≡ 15) × (valuesOf x ≡ []) × (r .session ≡ s)
 wrong-or true s t r x e h =
     absurd (given-refused (sym (ap (λ (y : Step (Unit {0})). y .answer) e) ∙ ap (λ (o : Outcome). outcomeAnswer {A = Unit {0}} o tt) h))
 wrong-or false s t r x e h =
     let q : refused (numberOf x) (valuesOf x) ≡ refused 15 [] =
     ap (λ (o : Outcome). outcomeAnswer {A = Unit {0}} o tt) (sym h) ∙ ap (λ (y : Step (Unit {0})). y .answer) e in
-    (refl, cc, cc)
+    (refl, cc, cc, ap (λ (y : Step (Unit {0})). y .session) e)
 
 module _ (s : Session) (secure : isSecure (s .state) ≡ true) where
   pub secure-mac : (l : List ℕ) → let m = sessionMac s (sendFrom s) l .full in makeMac s l ≡ record { answer = given m; session = sent s m }
@@ -70,5 +70,5 @@ module _ (s : Session) (secure : isSecure (s .state) ≡ true) where
   verify-right l w r e h = right-or _ s _ r (e ∙ secure-verify l w) h
 
   pub verify-wrong-mac : (l w : List ℕ) (r : Stepped) (x : Refusal) → stepped r ≡ verifyOf s l w → r .outcome ≡ Outcome.Refused x
-      → (eql (take 4 (sessionMac s (recvFrom s) l .full)) w ≡ false) × (numberOf x ≡ 15) × (valuesOf x ≡ [])
+      → (eql (take 4 (sessionMac s (recvFrom s) l .full)) w ≡ false) × (numberOf x ≡ 15) × (valuesOf x ≡ []) × (r .session ≡ s)
   verify-wrong-mac l w r x e h = wrong-or _ s _ r x (e ∙ secure-verify l w) h

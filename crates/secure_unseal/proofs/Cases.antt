@@ -47,6 +47,11 @@ pub stops : {s : Session} {r : Unsealed} {e : Refusal} {n : ℕ} {w : List ℕ} 
 unfolding afterUnseal
 stops {s} {w = w} h k = ap (λ (y : Unsealed). unsealTold y w) h ∙ ap (unsealedOn s) k
 
+-- with the session that a check handed back, t, which is the one it was given
+pub stops-at : {s t : Session} {r : Unsealed} {e : Refusal} {n : ℕ} {w : List ℕ} {x : UnsealRun} → t ≡ s → r ≡ stopped t e n
+    → record { answer = refusalOf e; moved = none; work = w; steps = n } ≡ x → unsealTold r w ≡ unsealedOn s x
+stops-at {e = e} {n = n} q h k = stops (h ∙ ap (λ (y : Session). stopped y e n) q) k
+
 pub moves : (s : Session) (m : List ℕ) {t : Session} {p : Place} {w : List ℕ} {n : ℕ} {x : UnsealRun} → t ≡ received s m
     → record { answer = given p; moved = some m; work = w; steps = n } ≡ x → record { answer = given p; session = t; work = w; steps = n } ≡ unsealedOn s x
 unfolding afterUnseal
@@ -66,7 +71,7 @@ module _ (s : Session) (secure : isSecure (s .state) ≡ true) (f : List ℕ) (a
   unfolding check
   check-passed h = verify-right s secure (take at f) (take 4 (drop at f)) r e h
 
-  pub check-failed : (x : Refusal) → r .outcome ≡ Outcome.Refused x → (check (s .keys) (recvFrom s) f at .right ≡ false) × (numberOf x ≡ 15) × (valuesOf x ≡ [])
+  pub check-failed : (x : Refusal) → r .outcome ≡ Outcome.Refused x → (check (s .keys) (recvFrom s) f at .right ≡ false) × (numberOf x ≡ 15) × (valuesOf x ≡ []) × (r .session ≡ s)
   unfolding check
   check-failed x h = verify-wrong-mac s secure (take at f) (take 4 (drop at f)) r x e h
 

@@ -104,7 +104,7 @@ fn unseal_plain(session: Session, frame: &[u8], p: ParsedPacket, mac_at: usize) 
             calls,
             session: next,
         },
-        Outcome::Refused(e) => stopped(session, e, calls),
+        Outcome::Refused(e) => stopped(next, e, calls),
     }
 }
 
@@ -142,7 +142,7 @@ fn unseal_hidden(
                 Outcome::Refused(e) => {
                     // what was opened must not stay behind
                     wipe(work, n);
-                    stopped(session, e, calls)
+                    stopped(next, e, calls)
                 }
             }
         }

@@ -14,7 +14,7 @@ use Rattle.secure_session.specs.Session.{recvFrom}
 use Rattle.secure_session.proofs.SecureLaws.{secure-open-data}
 use Rattle.secure_session.proofs.SessionLaws.{recv-block}
 use Rattle.secure_unseal.specs.Unseal.{check}
-use Rattle.secure_unseal.proofs.Cases.{stops, moves, check-passed, check-failed, hidden-no, hidden-right, hidden-wrong}
+use Rattle.secure_unseal.proofs.Cases.{stops, stops-at, moves, check-passed, check-failed, hidden-no, hidden-right, hidden-wrong}
 use Rattle.secure_unseal.proofs.Wiping.{found-steps, found-room, found-wiped, check-steps, check-counted}
 use borrow.Author.Needs.{needs, length-unmapped, elem-fits-field}
 use Rattle.secure_unseal.proofs.frame.unseal_hidden.Statement.{statement}
@@ -94,7 +94,7 @@ returns-2 c =
     let y = check-failed (a .session) (s .pre .0) (a .frame .now) (a .mac-at) (k .check .result) (k .check .ensures) (x .0 .0) (x .1) in
     let f : Bytes (a .frame .now) = λ i. omega (arith, d .before .before .before .shared-slice-known .given i) in
     let z = found-wiped (a .session .keys .«s_enc») (recvFrom (a .session)) (a .frame .now) (a .p .«data_start») (a .p .«data_len») (a .work .now) (s .pre .2) (opened d) _ (ap lengthAnswer (g .opened .given .1)) (key-block s) (recv-block (a .session) (chain-block s) .size) f in
-    stops (c .stopped .ensures)
+    stops-at (y .3) (c .stopped .ensures)
     (hidden-wrong (a .session .keys) (recvFrom (a .session)) (a .frame .now) (fields (a .p)) (a .work .now) (s .pre .2) (opened d) _ _ (ap lengthAnswer (g .opened .given .1)) (counted m) _ _ _ (y .1) (y .2) (c .before .before .before .wipe .ensures ∙ z) (y .0))
 
 same-length-2 : tie.Need-same-length-2

@@ -5,7 +5,7 @@ use mathlib.Core.Path.{_≡_, _∙_}
 use Rattle.packet_parse.specs.Frame.{fields}
 use Rattle.secure_session.specs.Session.{recvFrom}
 use Rattle.secure_unseal.specs.Unseal.{check}
-use Rattle.secure_unseal.proofs.Cases.{stops, moves, check-passed, check-failed, plain-right, plain-wrong}
+use Rattle.secure_unseal.proofs.Cases.{stops-at, moves, check-passed, check-failed, plain-right, plain-wrong}
 use Rattle.secure_unseal.proofs.Wiping.{check-counted}
 use borrow.Author.Needs.{needs}
 use Rattle.secure_unseal.proofs.frame.unseal_plain.Statement.{statement}
@@ -32,7 +32,7 @@ returns-2 c =
     let a = s .args in
     let x = c .before .before .right .given in
     let y = check-failed (a .session) (s .pre .0) (a .frame .now) (a .mac-at) (k .check .result) (k .check .ensures) (x .0 .0) (x .1) in
-    λ w. stops (c .stopped .ensures) (plain-wrong _ (fields (a .p)) w (counted (k .before)) _ _ (y .1) (y .2) (y .0))
+    λ w. stops-at (y .3) (c .stopped .ensures) (plain-wrong _ (fields (a .p)) w (counted (k .before)) _ _ (y .1) (y .2) (y .0))
 
 pub unseal-plain-spec : {M : Type 1} → statement M
 unseal-plain-spec =
