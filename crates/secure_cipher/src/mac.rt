@@ -66,7 +66,8 @@ pub fn cbc_mac(input: &[u8], icv: [u8; 16], s_mac1: [u8; 16], s_mac2: [u8; 16]) 
     }
 }
 
-// How often the cipher is called for the MAC of `len` bytes: for those who make a MAC through a call that does not tell.
+// How often the cipher is called for the MAC of `len` bytes: what `cbc_mac` tells (`mac-counted`), for those who make a MAC
+// through a session's call, which does not tell it.
 pub fn mac_calls(len: usize) -> usize
     ensures { λ r. ⌜ r ≡ macCalls len ⌝ }
 {
