@@ -94,27 +94,19 @@ impl Session {
     pub fn verify(self, bytes: &[u8], wire_mac: [u8; 4]) -> Stepped
         ensures { λ r. ⌜ stepped r ≡ verifyOf self (now (bytes .entry)) «wire_mac» ⌝ }
     {
+        let mut outcome = Outcome::Refused(Refusal::WrongState);
+        let mut session = self;
         if self.is_secure() {
             let start = self.recv_from();
             let full = self.full_mac(start, bytes);
+            outcome = Outcome::Refused(Refusal::BadCryptogram);
             if secure_keys::same(&full[..4], &wire_mac) {
-                let next = self.received(full);
-                Stepped {
-                    outcome: Outcome::Done,
-                    session: next,
-                }
-            } else {
-                Stepped {
-                    outcome: Outcome::Refused(Refusal::BadCryptogram),
-                    session: self,
-                }
-            }
-        } else {
-            Stepped {
-                outcome: Outcome::Refused(Refusal::WrongState),
-                session: self,
+                outcome = Outcome::Done;
+                session = self.received(full);
             }
         }
+        // one answer, made in one place: a session is copied once
+        Stepped { outcome, session }
     }
 
     // The derived keys.
