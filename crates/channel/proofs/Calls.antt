@@ -23,13 +23,12 @@ use Rattle.packet_parse.specs.Frame.{Fields, parseOf}
 use Rattle.packet_build.specs.Build.{FrameBlock.scb, Parts, buildOf, partsGiven}
 use Rattle.packet_build.specs.declared.codec.BuildBlock.{BuildBlock}
 use Rattle.packet_build.specs.declared.codec.GivenMac.{GivenMac}
-use Rattle.packet_build.specs.declared.codec.PacketBuilder.{PacketBuilder}
 use Rattle.packet_view.specs.View.{Part, Shown, placesOf, placesTold, bytesAt, dataIn, payloadOf}
 use Rattle.packet_view.specs.declared.parts.Places.{Places}
 use Rattle.secure_session.specs.declared.session.Session.{Session}
 use Rattle.secure_seal.specs.Seal.{SealDone, sealOf, sealTold}
 use Rattle.secure_seal.specs.declared.frame.Sealed.{Sealed}
-use Rattle.secure_unseal.specs.Unseal.{UnsealDone, unsealOf, placeAnswer, unsealTold}
+use Rattle.secure_unseal.specs.Unseal.{UnsealDone, unsealOf, unsealTold}
 use Rattle.secure_unseal.specs.declared.frame.Unsealed.{Unsealed}
 use Rattle.secure_unseal.proofs.Settled.{place-settled}
 use Rattle.channel.specs.Carried.{Wire, wireParts, onLine, Carriage, carriage, wireOf, carriageTold}

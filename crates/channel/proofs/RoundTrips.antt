@@ -5,14 +5,13 @@ use Rattle.secure_session.specs.declared.session.Session.{Session}
 use Rattle.secure_session.proofs.Shaken.{Ready}
 use Rattle.channel.specs.Talk.{Send, Moved}
 use Rattle.channel.specs.Demand.{SendFits, RoundTrip}
-use Rattle.channel.proofs.TalkLaws.{made, transfer-eq, transfer-same, transfer-other}
+use Rattle.channel.proofs.TalkLaws.{transfer-eq, transfer-same, transfer-other}
 
 pub sealed-then-unsealed : (from to : Session) (s : Send) → Ready from to → SendFits s → RoundTrip from to s
 sealed-then-unsealed from to s r g =
     let e = transfer-eq from to s r g in
     record {
       opened = ap (λ (m : Moved). m .event .opened) e;
-      full = made from to s r g .full;
       sender = ap (λ (m : Moved). m .from) e;
       peer = ap (λ (m : Moved). m .to) e;
       again = transfer-same from to s r g .start;

@@ -60,7 +60,7 @@ pub record Heard (s : Send) (e : Event) : Type 0 where
   pub openCalls : e .openCalls ≡ stepsFor (s .encrypt) (length (s .payload))
 
 module _ (a b : Session) (s : Send) (r : Ready a b) (g : SendFits s) where
-  abbrev pub made : SealedFrame
+  abbrev made : SealedFrame
   made = sealedFrame (a .keys) (sendFrom a) (askedIn s)
 
   made-length : length (made .bytes) ≡ totalOf (askedIn s)

@@ -11,7 +11,7 @@ use Rattle.secure_keys.specs.Keys.{Random}
 use Rattle.secure_session.specs.Apart.{Apart}
 use Rattle.secure_session.specs.Session.{sendFrom, recvFrom, sent, received}
 use Rattle.secure_session.specs.declared.session.Session.{Session}
-use Rattle.secure_seal.specs.Seal.{Sealable, dataLenFor, totalOf}
+use Rattle.secure_seal.specs.Seal.{Sealable, dataLenFor, totalOf, sealedFrame}
 use Rattle.channel.specs.Handshake.{Hand, Wires, WiresFit, shakeIn, Succeeded}
 use Rattle.channel.specs.Talk.{Send, askedIn, Event, transfer, talk}
 
@@ -126,11 +126,10 @@ pub record Measured (s : Send) (e : Event) : Type 0 where
 
 -- ---- and of one frame: sealed by one end, then unsealed by the other
 
--- the payload opens as it was sent, both ends moved by one full MAC, and whichever sends next starts where the other's check does
+-- the payload opens as it was sent, both ends moved by the full MAC of that frame, and whichever sends next starts where the other's check does
 pub record RoundTrip (from to : Session) (s : Send) : Type 0 where
   pub opened : transfer from to s .event .opened ≡ given (s .payload)
-  pub full : List ℕ
-  pub sender : transfer from to s .from ≡ sent from full
-  pub peer : transfer from to s .to ≡ received to full
+  pub sender : transfer from to s .from ≡ sent from (sealedFrame (from .keys) (sendFrom from) (askedIn s) .full)
+  pub peer : transfer from to s .to ≡ received to (sealedFrame (from .keys) (sendFrom from) (askedIn s) .full)
   pub again : sendFrom (transfer from to s .from) ≡ recvFrom (transfer from to s .to)
   pub reply : sendFrom (transfer from to s .to) ≡ recvFrom (transfer from to s .from)

@@ -19,7 +19,8 @@ pub struct CarriedMessage {
     pub len: usize,
 }
 
-// Builds the message into `out` in a frame of a type that has no MAC, hands over what was built and nothing else, and reads that.
+// Builds the message into `out` in a frame of the type, with no MAC, hands over what was built and nothing else, and reads that. The
+// handshake's types are 11 to 14; for 15 to 18, which need a MAC, the building refuses by 11, and nothing is handed over.
 pub fn carry(
     ty: ScsType,
     addr: Address,

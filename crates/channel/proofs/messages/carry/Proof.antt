@@ -1,7 +1,6 @@
 -- `carry` meets its contract: what `build` is given, what it put on the line, and the reading of that (proofs/Calls).
 -- Assumes nothing.
 use Rattle.packet_head.specs.Block.{typeOf}
-use Rattle.packet_build.specs.declared.codec.GivenMac.{GivenMac}
 use Rattle.channel.specs.Carried.{wireOf}
 use Rattle.channel.proofs.Calls.{wire-given, carried-as}
 use Rattle.packet_view.proofs.Stretches.{same-bytes}
