@@ -82,8 +82,8 @@ fn tell<'a>(t: Transferred, payload: &[u8], out: &'a [u8], work: &'a [u8]) {
     put(b"\n");
 }
 
-// One frame from one end to the other.
-fn pass(
+// One sealed frame from one end to the other, told.
+fn seal_and_open(
     from: Session,
     to: Session,
     a: Asked,
@@ -130,22 +130,22 @@ fn lend(
         Room::Exact => {
             let mut out = [0xEEu8; 46];
             let mut work = [0xDDu8; 32];
-            pass(from, to, a, sqn, addr, payload, &mut out, &mut work)
+            seal_and_open(from, to, a, sqn, addr, payload, &mut out, &mut work)
         }
         Room::More => {
             let mut out = [0xEEu8; 99];
             let mut work = [0xDDu8; 48];
-            pass(from, to, a, sqn, addr, payload, &mut out, &mut work)
+            seal_and_open(from, to, a, sqn, addr, payload, &mut out, &mut work)
         }
-        Room::Any => {
+        Room::Much => {
             let mut out = [0xEEu8; 1440];
             let mut work = [0xDDu8; 1440];
-            pass(from, to, a, sqn, addr, payload, &mut out, &mut work)
+            seal_and_open(from, to, a, sqn, addr, payload, &mut out, &mut work)
         }
         Room::TooLittle => {
             let mut out = [0xEEu8; 13];
             let mut work = [0xDDu8; 32];
-            pass(from, to, a, sqn, addr, payload, &mut out, &mut work)
+            seal_and_open(from, to, a, sqn, addr, payload, &mut out, &mut work)
         }
     }
 }
@@ -259,8 +259,8 @@ fn third(used: Ends) {
     let controller = c.wipe();
     let reader = r.wipe();
     let ends = Ends { controller, reader };
-    let ready = shake(ends, *b"01234567", *b"abcdefgh", [0; 8], Room::Any);
-    talk(ready, b"off for an hour", b"badge 31415926 P", Room::Any);
+    let ready = shake(ends, *b"01234567", *b"abcdefgh", [0; 8], Room::Much);
+    talk(ready, b"off for an hour", b"badge 31415926 P", Room::Much);
 }
 
 fn main() {

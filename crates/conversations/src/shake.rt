@@ -16,11 +16,12 @@ pub(crate) struct Ends {
     pub reader: Session,
 }
 
-// Whose buffers are lent: just long enough, longer, or as long as any frame of the line.
+// How long the lent buffers are: just long enough for the largest frame that goes through them, longer, much longer, or too short for
+// any.
 pub(crate) enum Room {
     Exact,
     More,
-    Any,
+    Much,
     TooLittle,
 }
 
@@ -70,11 +71,12 @@ fn joined(a: [u8; 8], b: [u8; 8], c: [u8; 8], d: [u8; 8]) -> [u8; 32] {
     ]
 }
 
-fn part_of(m: [u8; 32], second: bool) -> [u8; 8] {
-    if second {
-        return [m[8], m[9], m[10], m[11], m[12], m[13], m[14], m[15]];
-    }
+fn first_eight(m: [u8; 32]) -> [u8; 8] {
     [m[0], m[1], m[2], m[3], m[4], m[5], m[6], m[7]]
+}
+
+fn second_eight(m: [u8; 32]) -> [u8; 8] {
+    [m[8], m[9], m[10], m[11], m[12], m[13], m[14], m[15]]
 }
 
 fn first_block(m: [u8; 32]) -> [u8; 16] {
@@ -171,7 +173,7 @@ fn say(ty: ScsType, addr: u8, code: u8, message: &[u8], crc: bool, out: &mut [u8
 }
 
 // The same through a buffer that holds something else before; what the peer reads.
-fn pass(ty: ScsType, addr: u8, code: u8, message: &[u8], room: Room) -> [u8; 32] {
+fn say_in(ty: ScsType, addr: u8, code: u8, message: &[u8], room: Room) -> [u8; 32] {
     match room {
         Room::Exact => {
             let mut out = [0xEEu8; 43];
@@ -181,7 +183,7 @@ fn pass(ty: ScsType, addr: u8, code: u8, message: &[u8], room: Room) -> [u8; 32]
             let mut out = [0xEEu8; 99];
             say(ty, addr, code, message, false, &mut out)
         }
-        Room::Any => {
+        Room::Much => {
             let mut out = [0xEEu8; 1440];
             say(ty, addr, code, message, true, &mut out)
         }
@@ -198,12 +200,12 @@ fn prove(controller: Session, reader: Session, room: Room) -> Ends {
     let cryptogram = server.block;
     let made = server.outcome;
     put_outcome(made);
-    let sent = pass(ScsType::Scs13, 0x05, 0x77, &cryptogram, room);
+    let sent = say_in(ScsType::Scs13, 0x05, 0x77, &cryptogram, room);
     let last = reader.receive_scrypt(first_block(sent));
     let found = last.outcome;
     put_outcome(found);
     let first = last.block;
-    let back = pass(ScsType::Scs14, 0x85, 0x78, &first, room);
+    let back = say_in(ScsType::Scs14, 0x85, 0x78, &first, room);
     let ready = controller.confirm_rmac_i(first_block(back));
     let confirmed = ready.outcome;
     put_outcome(confirmed);
@@ -217,9 +219,9 @@ fn prove(controller: Session, reader: Session, room: Room) -> Ends {
 
 // 12: the reader answers; the controller derives its keys and tests the client cryptogram.
 fn answer(controller: Session, reader: Session, reply: [u8; 32], room: Room) -> Ends {
-    let sent = pass(ScsType::Scs12, 0x85, 0x76, &reply, room);
-    let cuid = part_of(sent, false);
-    let rnd_b = part_of(sent, true);
+    let sent = say_in(ScsType::Scs12, 0x85, 0x76, &reply, room);
+    let cuid = first_eight(sent);
+    let rnd_b = second_eight(sent);
     let met = controller.receive_ccrypt(cuid, rnd_b, second_block(sent));
     let right = met.outcome;
     put_outcome(right);
@@ -236,8 +238,8 @@ pub(crate) fn shake(ends: Ends, rnd_a: [u8; 8], rnd_b: [u8; 8], cuid: [u8; 8], r
     let asked = controller.challenge(rnd_a);
     let asked_right = asked.outcome;
     put_outcome(asked_right);
-    let sent = pass(ScsType::Scs11, 0x05, 0x76, &rnd_a, room);
-    let told = reader.receive_challenge(part_of(sent, false), rnd_b);
+    let sent = say_in(ScsType::Scs11, 0x05, 0x76, &rnd_a, room);
+    let told = reader.receive_challenge(first_eight(sent), rnd_b);
     let told_right = told.outcome;
     put_outcome(told_right);
     let client = told.block;
