@@ -17,23 +17,21 @@ use Rattle.channel.proofs.TalkLaws.{openFor, Heard, ReadyFrom, any-able
 
 -- ---- one conversation
 
+-- what each pair has, it has in a weaker form; and what is equal in each pair is equal in all
+each-weaker : {A B : Type 0} (R Q : A → B → Type 0) → ((a : A) (b : B) → R a b → Q a b) → (xs : List A) (ys : List B) → Each R xs ys → Each Q xs ys
+each-weaker R Q w [] [] h = tt
+each-weaker R Q w [] (b ∷ ys) h = h
+each-weaker R Q w (a ∷ xs) [] h = h
+each-weaker R Q w (a ∷ xs) (b ∷ ys) h = (w a b (h .0), each-weaker R Q w xs ys (h .1))
+
+each-equal : {A B C : Type 0} (f : A → C) (g : B → C) (xs : List A) (ys : List B) → Each (λ (a : A) (b : B). g b ≡ f a) xs ys → map g ys ≡ map f xs
+each-equal f g [] [] h = refl
+each-equal f g [] (b ∷ ys) h = absurd h
+each-equal f g (a ∷ xs) [] h = absurd h
+each-equal f g (a ∷ xs) (b ∷ ys) h = λ i. h .0 i ∷ each-equal f g xs ys (h .1) i
+
 pub each-sized : (ss : List Send) (es : List Event) → Each Arrived ss es → map (λ (e : Event). length (e .frame)) es ≡ map (λ (s : Send). totalOf (askedIn s)) ss
-each-sized [] [] h = refl
-each-sized [] (e ∷ es) h = absurd h
-each-sized (s ∷ ss) [] h = absurd h
-each-sized (s ∷ ss) (e ∷ es) h = ap₂ (λ (n : ℕ) (l : List ℕ). n ∷ l) (h .0 .size) (each-sized ss es (h .1))
-
-each-arrived : (ss : List Send) (es : List Event) → Each Heard ss es → Each Arrived ss es
-each-arrived [] [] h = tt
-each-arrived [] (e ∷ es) h = h
-each-arrived (s ∷ ss) [] h = h
-each-arrived (s ∷ ss) (e ∷ es) h = (h .0 .arrived, each-arrived ss es (h .1))
-
-each-measured : (ss : List Send) (es : List Event) → Each Heard ss es → Each Measured ss es
-each-measured [] [] h = tt
-each-measured [] (e ∷ es) h = h
-each-measured (s ∷ ss) [] h = h
-each-measured (s ∷ ss) (e ∷ es) h = (h .0 .measured, each-measured ss es (h .1))
+each-sized ss es h = each-equal _ _ ss es (each-weaker Arrived (λ (s : Send) (e : Event). length (e .frame) ≡ totalOf (askedIn s)) (λ s e a. a .size) ss es h)
 
 -- the cipher calls at the two ends, told and as the paper counts them
 abbrev pub callsTold : Event → ℕ × ℕ
@@ -41,12 +39,6 @@ callsTold e = (e .sealCalls, e .openCalls)
 
 abbrev pub callsDue : Send → ℕ × ℕ
 callsDue s = (stepsFor (s .encrypt) (length (s .payload)), stepsFor (s .encrypt) (length (s .payload)))
-
-each-counted : (ss : List Send) (es : List Event) → Each Heard ss es → map callsTold es ≡ map callsDue ss
-each-counted [] [] h = refl
-each-counted [] (e ∷ es) h = absurd h
-each-counted (s ∷ ss) [] h = absurd h
-each-counted (s ∷ ss) (e ∷ es) h = λ i. (h .0 .sealCalls i, h .0 .openCalls i) ∷ each-counted ss es (h .1) i
 
 module _ (t : Conversation) (p : Proper t) where
   ready-from : (w : End) → ReadyFrom w (handOf t .controller) (handOf t .reader)
@@ -59,10 +51,11 @@ module _ (t : Conversation) (p : Proper t) where
 
   -- the compared bytes end exactly where the encrypted data start, or the MAC
   pub compared-to-the-end : Each Measured (t .sends) (eventsOf t)
-  compared-to-the-end = each-measured (t .sends) (eventsOf t) heard
+  compared-to-the-end = each-weaker Heard Measured (λ s e h. h .measured) (t .sends) (eventsOf t) heard
 
   pub calls-counted : map callsTold (eventsOf t) ≡ map callsDue (t .sends)
-  calls-counted = each-counted (t .sends) (eventsOf t) heard
+  calls-counted = each-equal callsDue callsTold (t .sends) (eventsOf t)
+      (each-weaker Heard (λ (s : Send) (e : Event). callsTold e ≡ callsDue s) (λ s e h. λ i. (h .sealCalls i, h .openCalls i)) (t .sends) (eventsOf t) heard)
 
 -- ---- two
 
@@ -113,7 +106,7 @@ pub demand3 : (t u : Conversation) → Proper t → Proper u → Each Agree (t .
 demand3 t u p q h = record {
   shook₁ = succeeded (t .wires) (t .controller) (t .reader) (t .rndA) (t .rndB) (p .wires) (p .apart) (p .rndA) (p .rndB);
   shook₂ = succeeded (u .wires) (u .controller) (u .reader) (u .rndA) (u .rndB) (q .wires) (q .apart) (q .rndA) (q .rndB);
-  arrived₁ = each-arrived (t .sends) (eventsOf t) (heard t p);
-  arrived₂ = each-arrived (u .sends) (eventsOf u) (heard u q);
+  arrived₁ = each-weaker Heard Arrived (λ s e h. h .arrived) (t .sends) (eventsOf t) (heard t p);
+  arrived₂ = each-weaker Heard Arrived (λ s e h. h .arrived) (u .sends) (eventsOf u) (heard u q);
   alike = all-alike (t .sends) (u .sends) (eventsOf t) (eventsOf u) h (heard t p) (heard u q);
 }
