@@ -11,19 +11,17 @@ use lib.Seq.{length-take-le}
 use denote.Ref.{RefT, now}
 use Rattle.laws.specs.Answer.{Answer, Answer.given, Answer.refused}
 use Rattle.laws.specs.Bytes.{Bytes}
-use Rattle.laws.specs.Buffer.{sized, written}
 use Rattle.laws.proofs.Answers.{given-refused}
 use Rattle.laws.proofs.Lists.{nothing}
 use Rattle.laws.proofs.Listed.{all-listed}
-use Rattle.laws.proofs.Overwrite.{take-write}
 use Rattle.refusal.specs.declared.Outcome.{Outcome}
 use Rattle.refusal.specs.Reading.{outcomeAnswer}
-use Rattle.packet_head.specs.Header.{Control, control}
+use Rattle.packet_head.specs.Header.{control}
 use Rattle.packet_head.proofs.Types.{type-range}
 use Rattle.packet_parse.specs.Frame.{Fields, BlockAt, BlockAt.noBlock, BlockAt.blockAt, MacAt, MacAt.noMac, MacAt.macFrom, typeIn, parseOf}
 use Rattle.packet_parse.proofs.Within.{accepted-inside}
 use Rattle.packet_parse.proofs.MacDue.{TypeKnown, accepted-due}
-use Rattle.packet_build.specs.Build.{Parts, FrameBlock, FrameBlock.scb, scbGiven, macBytes, partsGiven, buildOf}
+use Rattle.packet_build.specs.Build.{Parts, FrameBlock.scb, scbGiven, macBytes, partsGiven, buildOf}
 use Rattle.packet_build.specs.declared.codec.BuildBlock.{BuildBlock}
 use Rattle.packet_build.specs.declared.codec.GivenMac.{GivenMac}
 use Rattle.packet_build.specs.declared.codec.PacketBuilder.{PacketBuilder}

@@ -10,7 +10,7 @@ use Rattle.laws.specs.Over.{write}
 use Rattle.laws.proofs.Answers.{given-inj, given-refused}
 use Rattle.packet_head.proofs.Types.{type-taken}
 use Rattle.packet_parse.specs.Frame.{Fields, typeIn, parseOf}
-use Rattle.packet_build.specs.Build.{Parts, FrameBlock, scbGiven, partsGiven, buildOf}
+use Rattle.packet_build.specs.Build.{Parts, scbGiven, partsGiven, buildOf}
 use Rattle.packet_build.specs.declared.codec.BuildBlock.{BuildBlock}
 use Rattle.packet_build.specs.declared.codec.GivenMac.{GivenMac}
 use Rattle.packet_build.specs.declared.codec.PacketBuilder.{PacketBuilder}

@@ -11,7 +11,7 @@ use lib.ListN.{length, getD, take, length-append}
 use lib.Seq.{length-take-le, getD-take, take-append-le, take-take}
 use Rattle.laws.specs.Answer.{Answer, Answer.given, Answer.refused, refuseIf, andThen}
 use Rattle.laws.proofs.Answers.{holds-given, refuse-false}
-use Rattle.packet_head.specs.Header.{Control, controlOf}
+use Rattle.packet_head.specs.Header.{controlOf}
 use Rattle.packet_parse.specs.Frame.{Head, Fields, lenOf, headOf, frameOf, parseOf}
 use Rattle.packet_parse.proofs.HeadTold.{HeadRead, head-read, accepted-told}
 use Rattle.packet_parse.proofs.Within.{accepted-inside}

@@ -1,7 +1,7 @@
 -- The cipher calls of unsealing, of any frame on any session, by how it came out (docs/RULES.md, 9.2 and 9.3).
 --     unseal-calls     they are what `unsealCallsOf` says
 -- Assumes nothing.
-use mathlib.Core.Bool.{Bool, true, false, cond, not, _||_}
+use mathlib.Core.Bool.{Bool, true, false, false≢true, cond, not, _||_}
 use mathlib.Core.List.{List, []}
 use mathlib.Core.Path.{_≡_, refl, sym, ap, _∙_}
 use Prim.Native.Nat.{ℕ, zero, suc, _+_, _-_, _/_, _%_}
@@ -53,10 +53,7 @@ parse-placed s = holds-then _ _ _ (λ h _. holds-refuse _ _ _ _ _ (λ _. frame-p
 
 start-due : (b : Bool) (n t : ℕ) → b ≡ true → macStart (macAt b (n - (macLen b + t))) ≡ n - 4 - t
 start-due true n t h = omega arith
-start-due false n t h = absurd (false-true h)
-  where
-    false-true : false ≡ true → ⊥
-    false-true e = let z : _≡_ {A = ℕ} 0 1 = cc in omega arith
+start-due false n t h = absurd (false≢true h)
 
 -- ---- the data's calls
 

@@ -4,7 +4,7 @@ use native.Mathlib.Omega.{arith}
 use mathlib.Core.Path.{_≡_, ap, _∙_}
 use Prim.Native.Nat.{ℕ, _+_, _/_, _≤_}
 use mir.Syntax.{w8}
-use lib.ListN.{length, take, drop}
+use lib.ListN.{take, drop}
 use Rattle.laws.specs.Blocks.{Block}
 use Rattle.laws.specs.Bytes.{Bytes, compl}
 use Rattle.packet_parse.specs.Frame.{fields}
