@@ -333,7 +333,18 @@ static inline void malstrink_clear(void *p, size_t n)
 /* A session crosses by value, so a call leaves copies of it on the stack. Each form below makes its
    call in a function of its own, which is not inlined, and zeroes the stack that this one had. */
 #define MALSTRINK_ALONE static __attribute__((noinline, unused))
-MALSTRINK_ALONE void malstrink_clear_stack(void)
+/* -fstack-protector (which distributions build packages with) would put a guard above the array and
+   leave that many bytes at the top uncleared; nothing here can run over the array. gcc before 11
+   does not know the attribute: give it -fno-stack-protector */
+#ifdef __has_attribute
+#if __has_attribute(no_stack_protector)
+#define MALSTRINK_NO_GUARD __attribute__((no_stack_protector))
+#endif
+#endif
+#ifndef MALSTRINK_NO_GUARD
+#define MALSTRINK_NO_GUARD
+#endif
+MALSTRINK_ALONE MALSTRINK_NO_GUARD void malstrink_clear_stack(void)
 {
     uint64_t deep[MALSTRINK_STACK / 8];
     volatile uint64_t *at = deep;
