@@ -15,10 +15,9 @@ fn main() {
     let dir = match env::var("MALSTRINK_LIB_DIR") {
         // to check, without linking
         Ok(dir) if dir == "none" => return,
-        Ok(dir) => PathBuf::from(dir),
-        Err(_) => PathBuf::from(env!("CARGO_MANIFEST_DIR"))
-            .join(DIRECTORY)
-            .join(&arch),
+        // a relative one is meant from here, the crate's directory; in full, since cargo's user stands elsewhere
+        Ok(dir) => PathBuf::from(env!("CARGO_MANIFEST_DIR")).join(dir),
+        Err(_) => PathBuf::from(env!("CARGO_MANIFEST_DIR")).join(DIRECTORY).join(&arch),
     };
     let archive = dir.join(format!("lib{LIBRARY}.a"));
     // also where it is not: once it is written, this script runs again

@@ -72,6 +72,8 @@ extern "C" {
 
     pub fn malstrink_session_new(scbk: Bytes16) -> Session;
     pub fn malstrink_session_new_reader(scbk: Bytes16, cuid: Bytes8) -> Session;
+    // for the tests alone: it takes a copy of the keys
+    #[cfg(test)]
     pub fn malstrink_session_wipe(s: Session) -> Session;
     pub fn malstrink_session_challenge(s: Session, rnd_a: Bytes8) -> Stepped;
     pub fn malstrink_session_receive_ccrypt(s: Session, cuid: Bytes8, rnd_b: Bytes8, client: Bytes16) -> Stepped;

@@ -15,6 +15,19 @@ use core::fmt;
 /// assert_eq!(Address::pd(0x90).unwrap_err().to_string(), "address 90 is above 7F");
 /// ```
 ///
+/// `{:?}` shows the case's name and its numbers, and those are decimal: `BadCrc { got: 35004, want: 35260 }`. That is also what a
+/// `main` that answers `Result<_, Box<dyn Error>>` prints when it ends by a refusal. To have the text there, print it before ending,
+/// or hand on the text as the error:
+///
+/// ```
+/// fn main() -> Result<(), Box<dyn std::error::Error>> {
+///     let bytes = [0x53, 0x05, 0x07, 0x00, 0x00, 0x60, 0x41];
+///     let parsed = malstrink::parse(&bytes).map_err(|wrong| wrong.to_string())?;
+///     assert_eq!(parsed.packet.code, 0x60);
+///     Ok(())
+/// }
+/// ```
+///
 /// With the feature `std` it is a `std::error::Error`. A case may be added, so a `match` needs an arm for the rest.
 #[derive(Clone, Copy, Debug, PartialEq, Eq, Hash)]
 #[non_exhaustive]

@@ -86,9 +86,10 @@ pub fn payload<'a>(frame: &'a [u8], work: &'a [u8], place: Place) -> Result<&'a 
 
 /// A session. It is handed to the proved calls by value, and what they hand back is kept.
 ///
-/// Dropping it writes zeros over all of it, by volatile writes and not by the archive's wipe: that call takes a session and hands
-/// another back, so it would copy the keys once more, and the store of its answer into memory about to be given up is one that a
-/// compiler may leave out. What cannot be reached from here are the copies on the stack that passing by value makes.
+/// Dropping it writes zeros over all of it, and [`Session::wipe`] over all but its end, by volatile writes and not by the archive's
+/// wipe: that call takes a session and hands another back, so it would copy the keys once more, and the store of its answer into
+/// memory about to be given up is one that a compiler may leave out. What cannot be reached from here are the copies on the stack
+/// that passing by value makes.
 pub struct Session {
     raw: raw::Session,
 }
@@ -148,10 +149,12 @@ impl Session {
         }
     }
 
-    /// Zeroes all but the end, whatever the state (7.7). The session is Disconnected, and its base key is zero too.
+    /// Zeroes all but the end, whatever the state (7.7). The session is Disconnected, and its base key is zero too. It is done where
+    /// the session stands, by volatile writes, and makes no copy of the keys.
     pub fn wipe(&mut self) {
-        let mut wiped = unsafe { raw::malstrink_session_wipe(self.raw) };
-        self.keep(&mut wiped);
+        let end = self.raw.end;
+        wipe(&mut self.raw);
+        self.raw.end = end;
     }
 
     // ---- the controller's end
@@ -308,5 +311,59 @@ impl Drop for Session {
 impl fmt::Debug for Session {
     fn fmt(&self, f: &mut fmt::Formatter<'_>) -> fmt::Result {
         write!(f, "Session {{ end: {:?}, state: {:?}, .. }}", self.end(), self.state())
+    }
+}
+
+#[cfg(test)]
+mod tests {
+    use super::*;
+
+    /// Wipes in place, and has the archive wipe a copy.
+    fn wiped_both_ways(mut s: Session) {
+        let by_archive = unsafe { raw::malstrink_session_wipe(s.raw) };
+        s.wipe();
+        assert!(s.raw == by_archive);
+    }
+
+    fn secure() -> (Session, Session) {
+        let (scbk, a, b, id) = (b"key of cabinet 7", b"random.A", b"random.B", b"cabinet7");
+        let (mut c, mut r) = (Session::new(scbk), Session::new_reader(scbk, id));
+        c.challenge(a).unwrap();
+        let client = r.receive_challenge(a, b).unwrap();
+        c.receive_ccrypt(id, b, &client).unwrap();
+        let first = r.receive_scrypt(&c.server_cryptogram().unwrap()).unwrap();
+        c.confirm_rmac_i(&first).unwrap();
+        (c, r)
+    }
+
+    #[test]
+    fn wipe_leaves_what_the_archive_answers() {
+        let (c, r) = secure();
+        wiped_both_ways(c);
+        wiped_both_ways(r);
+        // whatever the numbers in it
+        let bytes = [0xA5; 16];
+        let keys = raw::Keys {
+            s_enc: bytes,
+            s_mac1: bytes,
+            s_mac2: bytes,
+        };
+        for end in [0, 1, 2, 255] {
+            for state in [0, 1, 2, 3, 4, 255] {
+                let (rnd_a, rnd_b, cuid) = ([1; 8], [2; 8], [3; 8]);
+                wiped_both_ways(Session {
+                    raw: raw::Session {
+                        end,
+                        state,
+                        scbk: bytes,
+                        rnd_a,
+                        rnd_b,
+                        cuid,
+                        keys,
+                        chain: bytes,
+                    },
+                });
+            }
+        }
     }
 }
