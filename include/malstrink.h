@@ -2,9 +2,10 @@
 
    Link libmalstrink.a, which include/archive proves and makes, for x86-64 and for aarch64
    (docs/RULES.md has what each call does). The archive needs memcpy and memset and nothing else; it
-   keeps to the System V ABI of x86-64, or to the AAPCS64, and is ELF. Sizes are of 64 bits there,
-   and the proofs are for 64-bit sizes: on a 32-bit machine nothing here is proved, and nothing is
-   made for one. Wants C99 or C++11, and gcc or clang.
+   keeps to the System V ABI of x86-64, or to the AAPCS64, and is ELF. For aarch64 a script rewrites
+   the exports' way of passing structs (include/aapcs64.awk): that is tested and not proved. Sizes
+   are of 64 bits there, and the proofs are for 64-bit sizes: on a 32-bit machine nothing here is
+   proved, and nothing is made for one. Wants C99 or C++11, and gcc or clang.
 
    WHAT A CALLER OWES. A slice is a pointer and a length, of bytes that are there; a pointer of
    length 0 is not looked at. Of slices that are lent to one call together, one that is written
@@ -48,27 +49,29 @@ extern "C" {
 #endif
 
 /* ---- numbers */
-/* the refusals (docs/RULES.md, 1.2) */
+/* the refusals (docs/RULES.md, 1.2), each with what the answer's a and b carry, in this order; what
+   is not named is 0. That byte is the one refused, that data the block's; got is what the frame has,
+   want what was worked out; have and need are counts of bytes; a CRC is a number of 16 bits */
 enum {
     MALSTRINK_REFUSAL_NONE = 0,
-    MALSTRINK_REFUSAL_TRUNCATED = 1,
-    MALSTRINK_REFUSAL_BAD_SOM = 2,
-    MALSTRINK_REFUSAL_BAD_CONTROL_BYTE = 3,
-    MALSTRINK_REFUSAL_BAD_LENGTH = 4,
-    MALSTRINK_REFUSAL_BAD_SECURITY_BLOCK_LENGTH = 5,
-    MALSTRINK_REFUSAL_BAD_SECURITY_BLOCK = 6,
-    MALSTRINK_REFUSAL_BAD_CRC = 7,
-    MALSTRINK_REFUSAL_BAD_CHECKSUM = 8,
-    MALSTRINK_REFUSAL_BAD_ADDRESS = 9,
-    MALSTRINK_REFUSAL_BAD_SQN = 10,
-    MALSTRINK_REFUSAL_BAD_MAC = 11,
-    MALSTRINK_REFUSAL_BUFFER_OVERFLOW = 12,
-    MALSTRINK_REFUSAL_NOT_SECURE = 13,
-    MALSTRINK_REFUSAL_BAD_PADDING = 14,
-    MALSTRINK_REFUSAL_BAD_CRYPTOGRAM = 15,
-    MALSTRINK_REFUSAL_WRONG_STATE = 16,
-    MALSTRINK_REFUSAL_BLOCK_TOO_LONG = 17,
-    MALSTRINK_REFUSAL_NO_ROOM = 18
+    MALSTRINK_REFUSAL_TRUNCATED = 1, /* have, need */
+    MALSTRINK_REFUSAL_BAD_SOM = 2, /* that byte */
+    MALSTRINK_REFUSAL_BAD_CONTROL_BYTE = 3, /* the control byte */
+    MALSTRINK_REFUSAL_BAD_LENGTH = 4, /* LEN, LEN */
+    MALSTRINK_REFUSAL_BAD_SECURITY_BLOCK_LENGTH = 5, /* the block's type byte */
+    MALSTRINK_REFUSAL_BAD_SECURITY_BLOCK = 6, /* the type byte */
+    MALSTRINK_REFUSAL_BAD_CRC = 7, /* got, want */
+    MALSTRINK_REFUSAL_BAD_CHECKSUM = 8, /* got, want */
+    MALSTRINK_REFUSAL_BAD_ADDRESS = 9, /* that byte */
+    MALSTRINK_REFUSAL_BAD_SQN = 10, /* that byte */
+    MALSTRINK_REFUSAL_BAD_MAC = 11, /* nothing */
+    MALSTRINK_REFUSAL_BUFFER_OVERFLOW = 12, /* the total, 65,535 */
+    MALSTRINK_REFUSAL_NOT_SECURE = 13, /* nothing */
+    MALSTRINK_REFUSAL_BAD_PADDING = 14, /* nothing */
+    MALSTRINK_REFUSAL_BAD_CRYPTOGRAM = 15, /* nothing */
+    MALSTRINK_REFUSAL_WRONG_STATE = 16, /* nothing */
+    MALSTRINK_REFUSAL_BLOCK_TOO_LONG = 17, /* the length of that data */
+    MALSTRINK_REFUSAL_NO_ROOM = 18 /* need, have */
 };
 /* a session's end and state */
 enum { MALSTRINK_END_CONTROLLER = 0, MALSTRINK_END_READER = 1 };
