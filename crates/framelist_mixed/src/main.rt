@@ -1,4 +1,4 @@
-// framelist, on a second capture, given as a file: a sealed frame, a frame with a checksum, and a refusal with frames after it.
+// The same as framelist, once more so that the tests can hand it a file: sealed frames, one with a checksum, a refusal with frames after it.
 use libc::STDERR_FILENO;
 
 fn main() {
