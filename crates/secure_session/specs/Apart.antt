@@ -7,7 +7,8 @@ use Rattle.secure_session.specs.declared.session.End.the-variants.{Contr
 use Rattle.secure_session.specs.declared.session.State.the-variants.{Disconnected}
 use Rattle.secure_session.specs.declared.session.Session.{Session}
 
--- a controller's end and a reader's, both Disconnected, with one key; their other fields are any
+-- a controller's end and a reader's, both Disconnected, with one key of sixteen bytes; the reader's cUID is eight bytes, and their other
+-- fields are any
 pub record Apart (c r : Session) : Type 0 where
   pub controller : c .end ≡ Controller
   pub reader : r .end ≡ Reader
