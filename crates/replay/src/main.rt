@@ -1,7 +1,8 @@
-// Asks the calls of the C interface the stored questions, and tells of each how many answers are the stored ones. The input has a part
-// for each call, and one for each worked case of the paper: the call's number, with 128 added where it is lent a buffer, how many
-// cases there are, their name; then the cases, each what the call is handed and the answer that the oracle gives (oracle/store writes
-// them). Answers that differ, and an input that is cut, are said on standard error too, in a line that begins `replay: refused `.
+// Asks the calls of the C interface the stored questions, and tells of each how many answers are the stored ones. The input says in two
+// bytes, the low one first, how many parts follow. There is a part for each call, and one for each worked case of the paper: the call's
+// number, with 128 added where it is lent a buffer, how many cases there are, their name; then the cases, each what the call is handed
+// and the answer that the oracle gives (oracle/store writes them). Answers that differ, an input that is cut, also between two parts,
+// and bytes after the last part are said on standard error too, in a line that begins `replay: refused `.
 ghost use Prim.Native.Nat.{_≤_};
 ghost use mathlib.Core.Path.{_≡_};
 ghost use lib.ListN.{length};
@@ -69,7 +70,7 @@ fn say_cut(at: usize) {
 }
 
 fn say_more(at: usize) {
-    say_refused(at, b": more calls than there are\n");
+    say_refused(at, b": more than the parts that are said\n");
 }
 
 // The cases of one call, of which the first begins at `from`.
@@ -156,22 +157,24 @@ fn part(x: &[u8], from: usize) -> Seen
     }
 }
 
-// A part's call is told by a byte, so there are no more.
-const PARTS: usize = 256;
-
+// As many parts as the first two bytes say, and nothing after them.
 fn parts(x: &[u8]) {
-    let mut at = 0;
-    for _ in 0..PARTS {
+    if x.len() < 2 {
+        say_cut(0);
+        return;
+    }
+    let count = given::two(x);
+    let mut at = 2;
+    for _ in 0..count {
         let seen = part(x, at);
         if seen.over {
             return;
         }
         at = seen.at;
-        if at == x.len() {
-            return;
-        }
     }
-    say_more(at);
+    if at != x.len() {
+        say_more(at);
+    }
 }
 
 // Room for more than is stored; a function of its own, so that `main`'s proof sees the length and not the zeros.

@@ -55,9 +55,10 @@ impl Store {
         }
     }
 
-    /// A part for each call and one for each of the paper's cases, and what the program tells if all agree.
+    /// How many parts there are; a part for each call and one for each of the paper's cases; and what the program tells if all agree.
     pub fn written(self) -> (Vec<u8>, String) {
-        let (mut all, mut lines) = (Vec::new(), String::new());
+        let parts = (NAMES.len() + self.named.len()) as u16;
+        let (mut all, mut lines) = (parts.to_le_bytes().to_vec(), String::new());
         for (op, name) in NAMES.iter().enumerate() {
             let kept: Vec<&Case> = self.kinds.iter().filter(|k| k.0.0 as usize == op).flat_map(|k| &k.1.1).collect();
             part(&mut all, &mut lines, name, op as u8, &kept);

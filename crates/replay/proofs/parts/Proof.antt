@@ -1,4 +1,4 @@
--- `parts` ends: each turn is one of 256.
+-- `parts` ends: each turn is one of count.
 -- Assumes nothing.
 use Prim.Native.Nat.{_≤_, _-_}
 use lib.ListN.{length}
@@ -7,10 +7,10 @@ use Rattle.replay.proofs.parts.Statement.{statement}
 use Rattle.replay.proofs.parts.Tie as tie
 
 abbrev Inv-loop : tie.InvT-loop
-Inv-loop x at₀ counter₀ at counter = (counter ≤ 256) × (at ≤ length x)
+Inv-loop x count at₀ counter₀ at counter = (counter ≤ count) × (at ≤ length x)
 
 abbrev μ-loop : tie.MeasureT-loop
-μ-loop x at₀ counter₀ at counter = 256 - counter
+μ-loop x count at₀ counter₀ at counter = count - counter
 
 pub parts-spec : {M : Type 1} → statement M
 parts-spec =
@@ -18,12 +18,15 @@ parts-spec =
     (tie.spec
     Inv-loop
     μ-loop
+    (λ c κs. search needs)
+    (λ c. search needs)
+    (λ c κs. search needs)
     (λ c. search needs)
     (λ c κs. search needs)
     (λ c. search needs)
     (λ c. search needs)
     (λ c. search needs)
     (λ c. search needs)
-    (λ c. search needs)
     (λ c κs. search needs)
+    (λ c. search needs)
     (λ c. search needs))
