@@ -96,16 +96,17 @@ impl Session {
     {
         let mut outcome = Outcome::Refused(Refusal::WrongState);
         let mut session = self;
-        if self.is_secure() {
-            let start = self.recv_from();
-            let full = self.full_mac(start, bytes);
-            outcome = Outcome::Refused(Refusal::BadCryptogram);
+        if session.is_secure() {
+            let start = session.recv_from();
+            let full = session.full_mac(start, bytes);
             if secure_keys::same(&full[..4], &wire_mac) {
                 outcome = Outcome::Done;
-                session = self.received(full);
+                session = session.received(full);
+            } else {
+                outcome = Outcome::Refused(Refusal::BadCryptogram);
             }
         }
-        // one answer, made in one place: a session is copied once
+        // the answer is made in one place, so that the session is copied once
         Stepped { outcome, session }
     }
 
