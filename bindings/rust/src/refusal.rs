@@ -3,7 +3,7 @@ use crate::raw;
 use crate::ControlByte;
 use core::fmt;
 
-/// Why a call refuses, with what it carries. The cases stand in the order of their numbers, 1 to 18.
+/// Why a call refuses, with what it carries. The cases stand in the order of their numbers, from 1 on.
 ///
 /// As text it says what is wrong. Bytes and CRCs are hexadecimal there, without a mark, and counts are decimal, as in docs/RULES.md.
 ///
@@ -101,62 +101,94 @@ pub enum Refusal {
 }
 
 impl Refusal {
-    /// The refusal's number, 1 to 18.
+    /// The refusal's number, 1 or more.
     pub const fn number(self) -> u8 {
+        use Refusal::*;
         match self {
-            Refusal::Truncated { .. } => 1,
-            Refusal::BadSom(_) => 2,
-            Refusal::BadControlByte(_) => 3,
-            Refusal::BadLength { .. } => 4,
-            Refusal::BadSecurityBlockLength(_) => 5,
-            Refusal::BadSecurityBlock(_) => 6,
-            Refusal::BadCrc { .. } => 7,
-            Refusal::BadChecksum { .. } => 8,
-            Refusal::BadAddress(_) => 9,
-            Refusal::BadSqn(_) => 10,
-            Refusal::BadMac => 11,
-            Refusal::BufferOverflow { .. } => 12,
-            Refusal::NotSecure => 13,
-            Refusal::BadPadding => 14,
-            Refusal::BadCryptogram => 15,
-            Refusal::WrongState => 16,
-            Refusal::BlockTooLong(_) => 17,
-            Refusal::NoRoom { .. } => 18,
+            Truncated { .. } => 1,
+            BadSom(_) => 2,
+            BadControlByte(_) => 3,
+            BadLength { .. } => 4,
+            BadSecurityBlockLength(_) => 5,
+            BadSecurityBlock(_) => 6,
+            BadCrc { .. } => 7,
+            BadChecksum { .. } => 8,
+            BadAddress(_) => 9,
+            BadSqn(_) => 10,
+            BadMac => 11,
+            BufferOverflow { .. } => 12,
+            NotSecure => 13,
+            BadPadding => 14,
+            BadCryptogram => 15,
+            WrongState => 16,
+            BlockTooLong(_) => 17,
+            NoRoom { .. } => 18,
         }
+    }
+
+    /// The refusal of a number, with its two values as the archive tells them: a byte or a CRC comes in a number of 64 bits.
+    fn of(number: u8, a: usize, b: usize) -> Option<Refusal> {
+        use Refusal::*;
+        let (x, y) = (a as u8, b as u8);
+        let (got, want) = (a as u16, b as u16);
+        Some(match number {
+            1 => Truncated { have: a, need: b },
+            2 => BadSom(x),
+            3 => BadControlByte(x),
+            4 => BadLength { declared: a, actual: b },
+            5 => BadSecurityBlockLength(x),
+            6 => BadSecurityBlock(x),
+            7 => BadCrc { got, want },
+            8 => BadChecksum { got: x, want: y },
+            9 => BadAddress(x),
+            10 => BadSqn(x),
+            11 => BadMac,
+            12 => BufferOverflow { need: a, have: b },
+            13 => NotSecure,
+            14 => BadPadding,
+            15 => BadCryptogram,
+            16 => WrongState,
+            17 => BlockTooLong(a),
+            18 => NoRoom { need: a, have: b },
+            _ => return None,
+        })
     }
 }
 
 impl fmt::Display for Refusal {
     fn fmt(&self, f: &mut fmt::Formatter<'_>) -> fmt::Result {
+        use Refusal::*;
         match *self {
-            Refusal::Truncated { have, need } => write!(f, "{have} bytes are there and {need} are needed"),
-            Refusal::BadSom(b) => write!(f, "the first byte is {b:02X} and not 53"),
-            Refusal::BadControlByte(b) if b > 0x0F => write!(f, "control byte {b:02X} is above 0F"),
-            // in building, where the byte is one that was put together from a number and two flags
-            Refusal::BadControlByte(b) if b & ControlByte::HAS_SCB != 0 => {
-                write!(f, "control byte {b:02X} says that a block follows, and there is none")
-            }
-            Refusal::BadControlByte(b) => {
-                write!(f, "control byte {b:02X} says that no block follows, and there is one")
-            }
-            Refusal::BadLength { declared, .. } => {
-                write!(f, "a length of {declared} leaves no room for what the frame must hold")
-            }
-            Refusal::BadSecurityBlockLength(b) => write!(f, "the length of a block of type {b:02X} is below 2"),
-            Refusal::BadSecurityBlock(b) => write!(f, "block type {b:02X} is not one of 11 to 18"),
-            Refusal::BadCrc { got, want } => write!(f, "the CRC is {got:04X} and should be {want:04X}"),
-            Refusal::BadChecksum { got, want } => write!(f, "the checksum is {got:02X} and should be {want:02X}"),
-            Refusal::BadAddress(b) => write!(f, "address {b:02X} is above 7F"),
-            Refusal::BadSqn(n) => write!(f, "sequence number {n} is above 3"),
-            Refusal::BadMac => f.write_str("a MAC is due and missing, or given and not due"),
-            Refusal::BufferOverflow { need, have } => write!(f, "a frame of {need} bytes is longer than {have}"),
-            Refusal::NotSecure => f.write_str("the frame is not sealed: it has no block, or one of type 11 to 14"),
-            Refusal::BadPadding => f.write_str("encrypted data has a wrong length or wrong padding"),
-            Refusal::BadCryptogram => f.write_str("a cryptogram, a first chain value or a MAC is wrong"),
-            Refusal::WrongState => f.write_str("the call is not for this state or this end of a session"),
-            Refusal::BlockTooLong(n) => write!(f, "block data of {n} bytes is longer than 253"),
-            Refusal::NoRoom { need, have } => write!(f, "the buffer has {have} bytes and {need} are needed"),
+            Truncated { have, need } => write!(f, "{have} bytes are there and {need} are needed"),
+            BadSom(b) => write!(f, "the first byte is {b:02X} and not 53"),
+            BadControlByte(b) => write!(f, "control byte {b:02X} {}", control_fault(b)),
+            BadLength { declared: n, .. } => write!(f, "a length of {n} leaves no room for what the frame must hold"),
+            BadSecurityBlockLength(b) => write!(f, "the length of a block of type {b:02X} is below 2"),
+            BadSecurityBlock(b) => write!(f, "block type {b:02X} is not one of 11 to 18"),
+            BadCrc { got, want } => write!(f, "the CRC is {got:04X} and should be {want:04X}"),
+            BadChecksum { got, want } => write!(f, "the checksum is {got:02X} and should be {want:02X}"),
+            BadAddress(b) => write!(f, "address {b:02X} is above 7F"),
+            BadSqn(n) => write!(f, "sequence number {n} is above 3"),
+            BadMac => f.write_str("a MAC is due and missing, or given and not due"),
+            BufferOverflow { need, have } => write!(f, "a frame of {need} bytes is longer than {have}"),
+            NotSecure => f.write_str("the frame is not sealed: it has no block, or one of type 11 to 14"),
+            BadPadding => f.write_str("encrypted data has a wrong length or wrong padding"),
+            BadCryptogram => f.write_str("a cryptogram, a first chain value or a MAC is wrong"),
+            WrongState => f.write_str("the call is not for this state or this end of a session"),
+            BlockTooLong(n) => write!(f, "block data of {n} bytes is longer than 253"),
+            NoRoom { need, have } => write!(f, "the buffer has {have} bytes and {need} are needed"),
         }
+    }
+}
+
+/// What is wrong with a control byte. Up to 0F it was put together in building, from a number and two flags.
+fn control_fault(byte: u8) -> &'static str {
+    if byte > 0x0F {
+        "is above 0F"
+    } else if byte & ControlByte::HAS_SCB != 0 {
+        "says that a block follows, and there is none"
+    } else {
+        "says that no block follows, and there is one"
     }
 }
 
@@ -166,37 +198,13 @@ impl std::error::Error for Refusal {}
 impl raw::Answer {
     /// What was asked for, or the refusal.
     pub(crate) fn told(self) -> Result<usize, Refusal> {
-        // a byte or a CRC is carried in a number of 64 bits
-        let (a, b) = (self.a, self.b);
-        let byte = a as u8;
-        Err(match self.refusal {
-            0 => return Ok(a),
-            1 => Refusal::Truncated { have: a, need: b },
-            2 => Refusal::BadSom(byte),
-            3 => Refusal::BadControlByte(byte),
-            4 => Refusal::BadLength { declared: a, actual: b },
-            5 => Refusal::BadSecurityBlockLength(byte),
-            6 => Refusal::BadSecurityBlock(byte),
-            7 => Refusal::BadCrc {
-                got: a as u16,
-                want: b as u16,
-            },
-            8 => Refusal::BadChecksum {
-                got: byte,
-                want: b as u8,
-            },
-            9 => Refusal::BadAddress(byte),
-            10 => Refusal::BadSqn(byte),
-            11 => Refusal::BadMac,
-            12 => Refusal::BufferOverflow { need: a, have: b },
-            13 => Refusal::NotSecure,
-            14 => Refusal::BadPadding,
-            15 => Refusal::BadCryptogram,
-            16 => Refusal::WrongState,
-            17 => Refusal::BlockTooLong(a),
-            18 => Refusal::NoRoom { need: a, have: b },
-            n => unreachable!("the archive has no refusal {}", n),
-        })
+        if self.refusal == 0 {
+            return Ok(self.a);
+        }
+        match Refusal::of(self.refusal, self.a, self.b) {
+            Some(refusal) => Err(refusal),
+            None => unreachable!("the archive has no refusal {}", self.refusal),
+        }
     }
 
     /// The same where a success has nothing to tell.
@@ -206,15 +214,4 @@ impl raw::Answer {
 }
 
 #[cfg(test)]
-mod tests {
-    use super::*;
-
-    #[test]
-    fn each_number_is_told_as_itself() {
-        for n in 1..=18 {
-            let told = raw::Answer { refusal: n, a: 1, b: 2 }.told();
-            assert_eq!(told.map_err(Refusal::number), Err(n));
-        }
-        assert_eq!(raw::Answer { refusal: 0, a: 7, b: 0 }.told(), Ok(7));
-    }
-}
+mod tests;

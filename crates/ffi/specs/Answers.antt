@@ -2,24 +2,15 @@
 -- Assumes nothing.
 use Prim.Native.Nat.{ℕ}
 use mathlib.Core.Bool.{false}
-use mathlib.Core.List.{List, [], _∷_}
+use mathlib.Core.List.{List}
 use Rattle.laws.specs.Answer.{Answer, Answer.given, Answer.refused}
 use Rattle.refusal.specs.declared.Outcome.{Outcome}
 use Rattle.refusal.specs.declared.Refusal.{Refusal}
-use Rattle.refusal.specs.Paper.{numberOf, valuesOf}
+use Rattle.refusal.specs.Paper.{numberOf, valuesOf, valueA, valueB}
 use Rattle.refusal.specs.Reading.{outcomeAnswer}
 use Rattle.packet_head.specs.Header.{Control}
 use Rattle.ffi.specs.declared.answer.CAnswer.{CAnswer}
 use Rattle.ffi.specs.declared.head.CControl.{CControl}
-
--- a refusal carries at most two values; 0 stands for one that it does not carry
-abbrev pub valueA : List ℕ → ℕ
-valueA [] = 0
-valueA (a ∷ l) = a
-
-abbrev pub valueB : List ℕ → ℕ
-valueB [] = 0
-valueB (a ∷ l) = valueA l
 
 abbrev pub cRefused : ℕ → List ℕ → CAnswer
 cRefused n vs = record { refusal = n; a = valueA vs; b = valueB vs }

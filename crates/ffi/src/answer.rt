@@ -29,26 +29,8 @@ pub(crate) fn given(n: usize) -> CAnswer
 pub(crate) fn refused(e: Refusal) -> CAnswer
     ensures { λ r. ⌜ r ≡ cRefusal e ⌝ }
 {
-    match e {
-        Refusal::Truncated { have, need } => told(1, have, need),
-        Refusal::BadSom(b) => told(2, b as usize, 0),
-        Refusal::BadControlByte(b) => told(3, b as usize, 0),
-        Refusal::BadLength { declared, actual } => told(4, declared, actual),
-        Refusal::BadSecurityBlockLength(b) => told(5, b as usize, 0),
-        Refusal::BadSecurityBlock(b) => told(6, b as usize, 0),
-        Refusal::BadCrc { got, want } => told(7, got as usize, want as usize),
-        Refusal::BadChecksum { got, want } => told(8, got as usize, want as usize),
-        Refusal::BadAddress(b) => told(9, b as usize, 0),
-        Refusal::BadSqn(b) => told(10, b as usize, 0),
-        Refusal::BadMac => told(11, 0, 0),
-        Refusal::BufferOverflow { need, have } => told(12, need, have),
-        Refusal::NotSecure => told(13, 0, 0),
-        Refusal::BadPadding => told(14, 0, 0),
-        Refusal::BadCryptogram => told(15, 0, 0),
-        Refusal::WrongState => told(16, 0, 0),
-        Refusal::BlockTooLong(n) => told(17, n, 0),
-        Refusal::NoRoom { need, have } => told(18, need, have),
-    }
+    let n = e.numbered();
+    told(n.number, n.a, n.b)
 }
 
 pub(crate) fn length_c(a: LengthAnswer) -> CAnswer

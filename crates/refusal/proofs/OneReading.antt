@@ -2,69 +2,77 @@
 -- that crates share have one too.
 -- Assumes nothing.
 use mathlib.Core.Path.{_≡_, refl, sym, ap, _∙_}
-use mathlib.Core.Bool.{cond}
-use mathlib.Core.List.{List}
+use mathlib.Core.List.{List, [], _∷_}
 use Prim.Native.Nat.{ℕ}
-use lib.Dec.{eqb}
 use lib.ListN.{getD}
 use Rattle.laws.specs.Answer.{Answer, Answer.given, Answer.refused}
 use Rattle.laws.proofs.Answers.{one-reading}
-use Rattle.refusal.specs.Paper.{refusalOf}
+use Rattle.refusal.specs.Paper.{refusalOf, valueA, valueB, numberedOf}
 use Rattle.refusal.specs.Reading.{outcomeAnswer, lengthAnswer}
 use Rattle.refusal.specs.declared.Outcome.{Outcome}
 use Rattle.refusal.specs.declared.LengthAnswer.{LengthAnswer}
+use Rattle.refusal.specs.declared.Numbered.{Numbered}
 use Rattle.refusal.specs.declared.Refusal.{Refusal}
-use Rattle.refusal.specs.declared.Refusal.the-variants.{Truncated, BadSom, BadControlByte, BadLength, BadSecurityBlockLength, BadSecurityBlock, BadCrc, BadChecksum, BadAddress, BadSqn, BadMac, BufferOverflow, NotSecure, BadPadding, BadCryptogram, WrongState, BlockTooLong, NoRoom}
+
+-- the refusals in the order of their numbers, from 1 on, with these values; what stands at 0 does not matter
+abbrev table : ℕ → ℕ → List Refusal
+table a b =
+    Refusal.WrongState
+    ∷ Refusal.Truncated a b
+    ∷ Refusal.BadSom a
+    ∷ Refusal.BadControlByte a
+    ∷ Refusal.BadLength a b
+    ∷ Refusal.BadSecurityBlockLength a
+    ∷ Refusal.BadSecurityBlock a
+    ∷ Refusal.BadCrc a b
+    ∷ Refusal.BadChecksum a b
+    ∷ Refusal.BadAddress a
+    ∷ Refusal.BadSqn a
+    ∷ Refusal.BadMac
+    ∷ Refusal.BufferOverflow a b
+    ∷ Refusal.NotSecure
+    ∷ Refusal.BadPadding
+    ∷ Refusal.BadCryptogram
+    ∷ Refusal.WrongState
+    ∷ Refusal.BlockTooLong a
+    ∷ Refusal.NoRoom a b
+    ∷ []
 
 -- the refusal of a number and its values; what no refusal reads as does not matter
 abbrev pub named : ℕ → List ℕ → Refusal
-named n vs =
-    cond (eqb n 1) (Truncated (getD vs 0 0) (getD vs 1 0))
-    (cond (eqb n 2) (BadSom (getD vs 0 0))
-    (cond (eqb n 3) (BadControlByte (getD vs 0 0))
-    (cond (eqb n 4) (BadLength (getD vs 0 0) (getD vs 1 0))
-    (cond (eqb n 5) (BadSecurityBlockLength (getD vs 0 0))
-    (cond (eqb n 6) (BadSecurityBlock (getD vs 0 0))
-    (cond (eqb n 7) (BadCrc (getD vs 0 0) (getD vs 1 0))
-    (cond (eqb n 8) (BadChecksum (getD vs 0 0) (getD vs 1 0))
-    (cond (eqb n 9) (BadAddress (getD vs 0 0))
-    (cond (eqb n 10) (BadSqn (getD vs 0 0))
-    (cond (eqb n 11) BadMac
-    (cond (eqb n 12) (BufferOverflow (getD vs 0 0) (getD vs 1 0))
-    (cond (eqb n 13) NotSecure
-    (cond (eqb n 14) BadPadding
-    (cond (eqb n 15) BadCryptogram
-    (cond (eqb n 16) WrongState
-    (cond (eqb n 17) (BlockTooLong (getD vs 0 0))
-    (cond (eqb n 18) (NoRoom (getD vs 0 0) (getD vs 1 0))
-    (WrongState))))))))))))))))))
+named n vs = getD (table (valueA vs) (valueB vs)) n Refusal.WrongState
 
 abbrev pub refusalBack : Answer ℕ → Refusal
-refusalBack (given n) = WrongState
+refusalBack (given n) = Refusal.WrongState
 refusalBack (refused n vs) = named n vs
 
 pub told-back : (r : Refusal) → refusalBack (refusalOf r) ≡ r
-told-back (Truncated x y) = refl
-told-back (BadSom x) = refl
-told-back (BadControlByte x) = refl
-told-back (BadLength x y) = refl
-told-back (BadSecurityBlockLength x) = refl
-told-back (BadSecurityBlock x) = refl
-told-back (BadCrc x y) = refl
-told-back (BadChecksum x y) = refl
-told-back (BadAddress x) = refl
-told-back (BadSqn x) = refl
-told-back BadMac = refl
-told-back (BufferOverflow x y) = refl
-told-back NotSecure = refl
-told-back BadPadding = refl
-told-back BadCryptogram = refl
-told-back WrongState = refl
-told-back (BlockTooLong x) = refl
-told-back (NoRoom x y) = refl
+told-back (Refusal.Truncated x y) = refl
+told-back (Refusal.BadSom x) = refl
+told-back (Refusal.BadControlByte x) = refl
+told-back (Refusal.BadLength x y) = refl
+told-back (Refusal.BadSecurityBlockLength x) = refl
+told-back (Refusal.BadSecurityBlock x) = refl
+told-back (Refusal.BadCrc x y) = refl
+told-back (Refusal.BadChecksum x y) = refl
+told-back (Refusal.BadAddress x) = refl
+told-back (Refusal.BadSqn x) = refl
+told-back Refusal.BadMac = refl
+told-back (Refusal.BufferOverflow x y) = refl
+told-back Refusal.NotSecure = refl
+told-back Refusal.BadPadding = refl
+told-back Refusal.BadCryptogram = refl
+told-back Refusal.WrongState = refl
+told-back (Refusal.BlockTooLong x) = refl
+told-back (Refusal.NoRoom x y) = refl
 
 pub same-refusal : (r s : Refusal) → _≡_ {A = Answer ℕ} (refusalOf r) (refusalOf s) → r ≡ s
 same-refusal = one-reading refusalOf refusalBack told-back
+
+-- the three numbers, which C is told, settle it as well
+pub same-numbered : (r s : Refusal) → numberedOf r ≡ numberedOf s → r ≡ s
+same-numbered r s e =
+    sym (told-back r) ∙ ap (λ (n : Numbered). getD (table (n .a) (n .b)) (n .number) Refusal.WrongState) e ∙ told-back s
 
 -- ---- an outcome, whatever stands beside it
 

@@ -4,48 +4,62 @@ use Prim.Native.Nat.{ℕ}
 use mathlib.Core.List.{List, [], _∷_}
 use Rattle.laws.specs.Answer.{Answer, Answer.refused}
 use Rattle.refusal.specs.declared.Refusal.{Refusal}
-use Rattle.refusal.specs.declared.Refusal.the-variants.{Truncated, BadSom, BadControlByte, BadLength, BadSecurityBlockLength, BadSecurityBlock, BadCrc, BadChecksum, BadAddress, BadSqn, BadMac, BufferOverflow, NotSecure, BadPadding, BadCryptogram, WrongState, BlockTooLong, NoRoom}
+use Rattle.refusal.specs.declared.Numbered.{Numbered}
 
 abbrev pub numberOf : Refusal → ℕ
-numberOf (Truncated have need) = 1
-numberOf (BadSom b) = 2
-numberOf (BadControlByte b) = 3
-numberOf (BadLength declared actual) = 4
-numberOf (BadSecurityBlockLength ty) = 5
-numberOf (BadSecurityBlock ty) = 6
-numberOf (BadCrc got want) = 7
-numberOf (BadChecksum got want) = 8
-numberOf (BadAddress b) = 9
-numberOf (BadSqn b) = 10
-numberOf BadMac = 11
-numberOf (BufferOverflow need have) = 12
-numberOf NotSecure = 13
-numberOf BadPadding = 14
-numberOf BadCryptogram = 15
-numberOf WrongState = 16
-numberOf (BlockTooLong n) = 17
-numberOf (NoRoom need have) = 18
+numberOf (Refusal.Truncated have need) = 1
+numberOf (Refusal.BadSom b) = 2
+numberOf (Refusal.BadControlByte b) = 3
+numberOf (Refusal.BadLength declared actual) = 4
+numberOf (Refusal.BadSecurityBlockLength ty) = 5
+numberOf (Refusal.BadSecurityBlock ty) = 6
+numberOf (Refusal.BadCrc got want) = 7
+numberOf (Refusal.BadChecksum got want) = 8
+numberOf (Refusal.BadAddress b) = 9
+numberOf (Refusal.BadSqn b) = 10
+numberOf Refusal.BadMac = 11
+numberOf (Refusal.BufferOverflow need have) = 12
+numberOf Refusal.NotSecure = 13
+numberOf Refusal.BadPadding = 14
+numberOf Refusal.BadCryptogram = 15
+numberOf Refusal.WrongState = 16
+numberOf (Refusal.BlockTooLong n) = 17
+numberOf (Refusal.NoRoom need have) = 18
 
 abbrev pub valuesOf : Refusal → List ℕ
-valuesOf (Truncated have need) = have ∷ need ∷ []
-valuesOf (BadSom b) = b ∷ []
-valuesOf (BadControlByte b) = b ∷ []
-valuesOf (BadLength declared actual) = declared ∷ actual ∷ []
-valuesOf (BadSecurityBlockLength ty) = ty ∷ []
-valuesOf (BadSecurityBlock ty) = ty ∷ []
-valuesOf (BadCrc got want) = got ∷ want ∷ []
-valuesOf (BadChecksum got want) = got ∷ want ∷ []
-valuesOf (BadAddress b) = b ∷ []
-valuesOf (BadSqn b) = b ∷ []
-valuesOf BadMac = []
-valuesOf (BufferOverflow need have) = need ∷ have ∷ []
-valuesOf NotSecure = []
-valuesOf BadPadding = []
-valuesOf BadCryptogram = []
-valuesOf WrongState = []
-valuesOf (BlockTooLong n) = n ∷ []
-valuesOf (NoRoom need have) = need ∷ have ∷ []
+valuesOf (Refusal.Truncated have need) = have ∷ need ∷ []
+valuesOf (Refusal.BadSom b) = b ∷ []
+valuesOf (Refusal.BadControlByte b) = b ∷ []
+valuesOf (Refusal.BadLength declared actual) = declared ∷ actual ∷ []
+valuesOf (Refusal.BadSecurityBlockLength ty) = ty ∷ []
+valuesOf (Refusal.BadSecurityBlock ty) = ty ∷ []
+valuesOf (Refusal.BadCrc got want) = got ∷ want ∷ []
+valuesOf (Refusal.BadChecksum got want) = got ∷ want ∷ []
+valuesOf (Refusal.BadAddress b) = b ∷ []
+valuesOf (Refusal.BadSqn b) = b ∷ []
+valuesOf Refusal.BadMac = []
+valuesOf (Refusal.BufferOverflow need have) = need ∷ have ∷ []
+valuesOf Refusal.NotSecure = []
+valuesOf Refusal.BadPadding = []
+valuesOf Refusal.BadCryptogram = []
+valuesOf Refusal.WrongState = []
+valuesOf (Refusal.BlockTooLong n) = n ∷ []
+valuesOf (Refusal.NoRoom need have) = need ∷ have ∷ []
 
 -- a refusal, as a call's answer
 abbrev pub refusalOf : {A : Type 0} → Refusal → Answer A
 refusalOf e = refused (numberOf e) (valuesOf e)
+
+-- ---- in three numbers
+
+-- a refusal carries at most two values; 0 stands for one that it does not carry
+abbrev pub valueA : List ℕ → ℕ
+valueA [] = 0
+valueA (a ∷ l) = a
+
+abbrev pub valueB : List ℕ → ℕ
+valueB [] = 0
+valueB (a ∷ l) = valueA l
+
+abbrev pub numberedOf : Refusal → Numbered
+numberedOf e = record { number = numberOf e; a = valueA (valuesOf e); b = valueB (valuesOf e) }

@@ -1,8 +1,8 @@
 // Why a call refuses, with what the customer's paper has it carry (docs/RULES.md, 1).
 ghost use mathlib.Core.Path.{_≡_};
-ghost use Rattle.refusal.specs.Paper.{numberOf};
+ghost use Rattle.refusal.specs.Paper.{numberOf, numberedOf};
 
-// The cases stand in the order of their numbers, 1 to 18.
+// The cases stand in the order of their numbers, from 1 on.
 pub enum Refusal {
     Truncated { have: usize, need: usize },
     BadSom(u8),
@@ -36,32 +36,50 @@ pub enum LengthAnswer {
     Refused(Refusal),
 }
 
+// A refusal as numbers: its own, and the two values that it carries; 0 stands for one that it does not carry.
+pub struct Numbered {
+    pub number: u8,
+    pub a: usize,
+    pub b: usize,
+}
+
+fn row(number: u8, a: usize, b: usize) -> Numbered
+    ensures { λ r. ⌜ r ≡ record { number = number; a = a; b = b } ⌝ }
+{
+    Numbered { number, a, b }
+}
+
 impl Refusal {
     pub fn number(self) -> u8
         ensures { λ r. ⌜ r ≡ numberOf self ⌝ }
     {
+        let n = self.numbered();
+        n.number
+    }
+
+    // The paper's table, a row for each case.
+    pub fn numbered(self) -> Numbered
+        ensures { λ r. ⌜ r ≡ numberedOf self ⌝ }
+    {
         match self {
-            Refusal::Truncated { have: _, need: _ } => 1,
-            Refusal::BadSom(_) => 2,
-            Refusal::BadControlByte(_) => 3,
-            Refusal::BadLength {
-                declared: _,
-                actual: _,
-            } => 4,
-            Refusal::BadSecurityBlockLength(_) => 5,
-            Refusal::BadSecurityBlock(_) => 6,
-            Refusal::BadCrc { got: _, want: _ } => 7,
-            Refusal::BadChecksum { got: _, want: _ } => 8,
-            Refusal::BadAddress(_) => 9,
-            Refusal::BadSqn(_) => 10,
-            Refusal::BadMac => 11,
-            Refusal::BufferOverflow { need: _, have: _ } => 12,
-            Refusal::NotSecure => 13,
-            Refusal::BadPadding => 14,
-            Refusal::BadCryptogram => 15,
-            Refusal::WrongState => 16,
-            Refusal::BlockTooLong(_) => 17,
-            Refusal::NoRoom { need: _, have: _ } => 18,
+            Refusal::Truncated { have, need } => row(1, have, need),
+            Refusal::BadSom(b) => row(2, b as usize, 0),
+            Refusal::BadControlByte(b) => row(3, b as usize, 0),
+            Refusal::BadLength { declared, actual } => row(4, declared, actual),
+            Refusal::BadSecurityBlockLength(b) => row(5, b as usize, 0),
+            Refusal::BadSecurityBlock(b) => row(6, b as usize, 0),
+            Refusal::BadCrc { got, want } => row(7, got as usize, want as usize),
+            Refusal::BadChecksum { got, want } => row(8, got as usize, want as usize),
+            Refusal::BadAddress(b) => row(9, b as usize, 0),
+            Refusal::BadSqn(b) => row(10, b as usize, 0),
+            Refusal::BadMac => row(11, 0, 0),
+            Refusal::BufferOverflow { need, have } => row(12, need, have),
+            Refusal::NotSecure => row(13, 0, 0),
+            Refusal::BadPadding => row(14, 0, 0),
+            Refusal::BadCryptogram => row(15, 0, 0),
+            Refusal::WrongState => row(16, 0, 0),
+            Refusal::BlockTooLong(n) => row(17, n, 0),
+            Refusal::NoRoom { need, have } => row(18, need, have),
         }
     }
 }
