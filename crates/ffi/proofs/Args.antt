@@ -8,9 +8,10 @@ use Rattle.laws.specs.Answer.{Answer.given, Answer.refused}
 use Rattle.laws.proofs.Answers.{then-given, then-refused}
 use Rattle.packet_build.specs.Build.{Parts, buildOf, bodyOf, macBytes}
 use Rattle.packet_build.specs.declared.codec.GivenMac.{GivenMac}
-use Rattle.ffi.specs.declared.build.CMac.{CMac}
-use Rattle.ffi.specs.declared.build.CPacket.{CPacket}
-use Rattle.ffi.specs.Building.{partsArg, buildArg, bodyArg, macArg}
+use Rattle.crossing.specs.declared.build.CMac.{CMac}
+use Rattle.crossing.specs.declared.build.CPacket.{CPacket}
+use Rattle.crossing.specs.Building.{partsArg, macArg}
+use Rattle.ffi.specs.Building.{buildArg, bodyArg}
 
 pub build-asked : (p : CPacket) (l d m : List ℕ) (have : ℕ) (q : Parts) → partsArg p l d m ≡ given q → buildArg p l d m have ≡ buildOf q have
 unfolding buildArg

@@ -1,87 +1,35 @@
 -- What comes of a call on a session that C handed in: of one that can be read, the C form of the call's answer; of another, 16.
 -- Assumes nothing.
 use Prim.Native.Nat.{ℕ}
-use mathlib.Core.Path.{_≡_, refl, sym, ap, ap₂, _∙_}
+use mathlib.Core.Path.{_≡_, sym, ap, ap₂, _∙_}
 use mathlib.Core.List.{List}
-use lib.Dec.{eqb}
-use borrow.Author.Tests.{eqb-true}
-use Rattle.laws.specs.Answer.{Answer, Answer.given, Answer.refused, andThen, choose}
-use Rattle.laws.proofs.Answers.{then-given, then-refused, holds-given, holds-then, holds-choose}
+use Rattle.laws.specs.Answer.{Answer, Answer.given, Answer.refused}
+use Rattle.laws.proofs.Answers.{then-given, then-refused}
 use Rattle.refusal.specs.declared.Outcome.{Outcome}
 use Rattle.refusal.specs.declared.Refusal.{Refusal}
 use Rattle.refusal.specs.Paper.{refusalOf, numberOf, valuesOf}
 use Rattle.refusal.specs.Reading.{outcomeAnswer}
 use Rattle.secure_keys.specs.declared.crypto.SessionKeys.{SessionKeys}
 use Rattle.secure_cipher.specs.Cbc.{Done, cipherStop}
-use Rattle.secure_session.specs.declared.session.End.{End}
-use Rattle.secure_session.specs.declared.session.State.{State}
 use Rattle.secure_session.specs.declared.session.Session.{Session}
 use Rattle.secure_session.specs.declared.session.SteppedBlock.{SteppedBlock}
 use Rattle.secure_session.specs.declared.session.BlockAnswer.{BlockAnswer}
 use Rattle.secure_session.specs.declared.session.KeysAnswer.{KeysAnswer}
-use Rattle.secure_session.specs.Session.{endNumber, stateNumber, wipedOf, fresh}
+use Rattle.secure_session.specs.Session.{wipedOf, fresh}
 use Rattle.secure_session.specs.Handshake.{Step, steppedBlock, blockAnswer, blockBeside}
 use Rattle.secure_session.specs.Channel.{keysAnswer, keysBeside}
-use Rattle.ffi.specs.Ciphers.{cKeys}
-use Rattle.ffi.specs.Answers.{cYes, cOutcome}
-use Rattle.ffi.specs.Sessions.{endArg, stateArg, sessionWith, sessionArg, reading, cSession, cWiped, cStepped, cSteppedBlock, cBlockAnswer, cKeysAnswer, steppedArg, steppedBlockArg, blockAnswerArg, keysAnswerArg, doneArg, taken, toldBlock, toldAnswer, toldKeys, noStep, noSteppedBlock}
-use Rattle.ffi.specs.declared.answer.CAnswer.{CAnswer}
-use Rattle.ffi.specs.declared.keys.CKeys.{CKeys}
-use Rattle.ffi.specs.declared.session.CSession.{CSession}
-use Rattle.ffi.specs.declared.session.Taken.{Taken}
-
--- ---- in and out
-
--- what goes out can be read, and is read as it was
-pub out-and-in : (s : Session) → sessionArg (cSession s) ≡ given s
-unfolding sessionArg endArg stateArg choose andThen
-out-and-in s = go (s .end) (s .state)
-  where
-    go : (e : End) (t : State) → let x = sessionWith (cSession s) e t in sessionArg (cSession x) ≡ given x
-    go End.Controller State.Disconnected = refl
-    go End.Controller State.Challenged = refl
-    go End.Controller State.Cryptogrammed = refl
-    go End.Controller State.Secure = refl
-    go End.Reader State.Disconnected = refl
-    go End.Reader State.Challenged = refl
-    go End.Reader State.Cryptogrammed = refl
-    go End.Reader State.Secure = refl
-
-end-back : (n : ℕ) (e : End) → endArg n ≡ given e → endNumber e ≡ n
-unfolding endArg
-end-back n e =
-    let P : End → Type 0 = λ x. endNumber x ≡ n in
-    holds-given P (endArg n) e
-    (holds-choose P (eqb n 0) _ _ (λ t. sym (eqb-true n 0 t))
-    (λ u. holds-choose P (eqb n 1) _ _ (λ t. sym (eqb-true n 1 t)) (λ v. tt)))
-
-state-back : (n : ℕ) (t : State) → stateArg n ≡ given t → stateNumber t ≡ n
-unfolding stateArg
-state-back n t =
-    let P : State → Type 0 = λ x. stateNumber x ≡ n in
-    holds-given P (stateArg n) t
-    (holds-choose P (eqb n 0) _ _ (λ h. sym (eqb-true n 0 h))
-    (λ u. holds-choose P (eqb n 1) _ _ (λ h. sym (eqb-true n 1 h))
-    (λ v. holds-choose P (eqb n 2) _ _ (λ h. sym (eqb-true n 2 h))
-    (λ w. holds-choose P (eqb n 3) _ _ (λ h. sym (eqb-true n 3 h)) (λ x. tt)))))
-
--- what was read goes out as it came
-pub in-and-out : (c : CSession) (s : Session) → sessionArg c ≡ given s → cSession s ≡ c
-unfolding sessionArg
-in-and-out c s =
-    let P : Session → Type 0 = λ x. cSession x ≡ c in
-    holds-given P (sessionArg c) s
-    (holds-then P (endArg (c .end)) _ (λ e he.
-    holds-then P (stateArg (c .state)) _ (λ t ht.
-    ap₂ (λ (a b : ℕ). record { end = a; state = b; scbk = c .scbk; «rnd_a» = c .«rnd_a»; «rnd_b» = c .«rnd_b»; cuid = c .cuid; keys = c .keys; chain = c .chain })
-    (end-back (c .end) e he) (state-back (c .state) t ht))))
+use Rattle.crossing.specs.Ciphers.{cKeys}
+use Rattle.crossing.specs.Answers.{cYes}
+use Rattle.crossing.specs.Sessions.{sessionArg, cSession, cStepped, cSteppedBlock, cBlockAnswer, cKeysAnswer, taken, toldBlock, toldAnswer, toldKeys}
+use Rattle.ffi.specs.Sessions.{reading, cWiped, steppedArg, steppedBlockArg, blockAnswerArg, keysAnswerArg, doneArg, noStep, noSteppedBlock}
+use Rattle.crossing.specs.declared.answer.CAnswer.{CAnswer}
+use Rattle.crossing.specs.declared.keys.CKeys.{CKeys}
+use Rattle.crossing.specs.declared.session.CSession.{CSession}
+use Rattle.crossing.specs.declared.session.Taken.{Taken}
+use Rattle.crossing.proofs.Answered.{told-outcome}
+use Rattle.crossing.proofs.InAndOut.{in-and-out}
 
 -- ---- answers
-
--- an outcome says yes or the refusal, whatever stands beside it
-pub told-outcome : {A : Type 0} (o : Outcome) (a : A) → cOutcome o ≡ cYes (outcomeAnswer o a)
-told-outcome Outcome.Done a = refl
-told-outcome (Outcome.Refused e) a = refl
 
 told-block : (d : SteppedBlock) (x : Step (List ℕ)) → steppedBlock d ≡ x → d .block ≡ blockBeside (x .answer) → toldBlock d ≡ cSteppedBlock x
 told-block d x e b =

@@ -1,35 +1,18 @@
--- Sealing, unsealing and the payload's test, as C has them.
+-- Sealing and unsealing on a session that C hands in.
 -- Assumes nothing.
 use Prim.Native.Nat.{ℕ}
-use mathlib.Core.Bool.{Bool, true, false}
 use mathlib.Core.List.{List}
-use Rattle.laws.specs.Answer.{Answer, Answer.given, Answer.refused}
-use Rattle.refusal.specs.Reading.{lengthAnswer}
-use Rattle.secure_seal.specs.declared.frame.Direction.{Direction}
-use Rattle.secure_seal.specs.declared.frame.Direction.the-variants.{AcuToPd, PdToAcu}
-use Rattle.secure_seal.specs.declared.frame.Sealed.{Sealed}
-use Rattle.secure_seal.specs.Seal.{Asked, SealDone, sealOf}
-use Rattle.secure_unseal.specs.Unseal.{Place, unsealOf}
-use Rattle.ffi.specs.Answers.{cGiven, cRefused, cAnswer}
-use Rattle.ffi.specs.Sessions.{cSession, sessionArg, reading}
-use Rattle.ffi.specs.declared.session.CSession.{CSession}
-use Rattle.ffi.specs.declared.seal.CToSeal.{CToSeal}
-use Rattle.ffi.specs.declared.seal.CSealed.{CSealed}
-use Rattle.ffi.specs.declared.seal.CUnsealed.{CUnsealed}
-
--- ---- sealing
-
-abbrev pub directionArg : Bool → Direction
-directionArg false = AcuToPd
-directionArg true = PdToAcu
-
--- the SQN as it came: sealing tests it
-abbrev pub askedArg : CToSeal → List ℕ → Asked
-askedArg p x =
-    record { addr = p .addr; sqn = p .sqn; direction = directionArg (p .«from_reader»); encrypt = p .encrypt; code = p .code; payload = x }
-
-abbrev pub cSealed : SealDone → CSealed
-cSealed d = record { answer = cAnswer (d .answer); calls = d .steps; session = cSession (d .session) }
+use Rattle.laws.specs.Answer.{Answer.refused}
+use Rattle.secure_seal.specs.Seal.{sealOf}
+use Rattle.secure_unseal.specs.Unseal.{unsealOf}
+use Rattle.crossing.specs.declared.session.CSession.{CSession}
+use Rattle.crossing.specs.declared.seal.CToSeal.{CToSeal}
+use Rattle.crossing.specs.declared.seal.CSealed.{CSealed}
+use Rattle.crossing.specs.declared.seal.CUnsealed.{CUnsealed}
+use Rattle.crossing.specs.Answers.{cRefused}
+use Rattle.crossing.specs.Sealing.{askedArg, cSealed, cUnsealed}
+use Rattle.crossing.specs.Sessions.{sessionArg, cSession}
+use Rattle.ffi.specs.Sessions.{reading}
 
 -- what is told, and the buffer in the end
 pub record SealedC : Type 0 where
@@ -42,13 +25,6 @@ sealArg c p x o =
     (λ s. let d = sealOf s (askedArg p x) o in record { told = cSealed d; out = d .out })
     (λ n vs. record { told = record { answer = cRefused n vs; calls = 0; session = c }; out = o })
 
--- ---- unsealing
-
--- a place; all 0 beside a refusal
-abbrev pub cUnsealed : Answer Place → ℕ → CSession → CUnsealed
-cUnsealed (given p) n c = record { answer = cGiven 0; «in_work» = p .inWork; start = p .start; len = p .len; calls = n; session = c }
-cUnsealed (refused m vs) n c = record { answer = cRefused m vs; «in_work» = false; start = 0; len = 0; calls = n; session = c }
-
 pub record UnsealedC : Type 0 where
   pub told : CUnsealed
   pub work : List ℕ
@@ -58,8 +34,3 @@ unsealArg c f w =
     reading (sessionArg c)
     (λ s. let d = unsealOf s f w in record { told = cUnsealed (d .answer) (d .steps) (cSession (d .session)); work = d .work })
     (λ n vs. record { told = cUnsealed (refused n vs) 0 c; work = w })
-
--- ---- the code's kinds
-
-abbrev pub toldSealed : Sealed → CSealed
-toldSealed r = record { answer = cAnswer (lengthAnswer (r .answer)); calls = r .calls; session = cSession (r .session) }

@@ -1,102 +1,34 @@
--- Sessions as C has them: by value, with numbers for end and state. A call on one that cannot be read answers 16 and hands it back.
+-- The calls on a session that C hands in: of one that can be read, the call's answer; another answers 16 and comes back as it was.
 -- Assumes nothing.
 use Prim.Native.Nat.{ℕ}
-use mathlib.Core.List.{List, []}
-use lib.Dec.{eqb}
-use Rattle.laws.specs.Answer.{Answer, Answer.given, Answer.refused, andThen, choose}
+use mathlib.Core.List.{List}
+use Rattle.laws.specs.Answer.{Answer, Answer.given, Answer.refused, andThen}
 use Rattle.laws.specs.Bytes.{zeros}
-use Rattle.refusal.specs.Paper.{refusalOf}
-use Rattle.refusal.specs.Reading.{outcomeAnswer}
 use Rattle.refusal.specs.declared.Refusal.{Refusal}
 use Rattle.secure_keys.specs.declared.crypto.SessionKeys.{SessionKeys}
 use Rattle.secure_cipher.specs.Cbc.{Done, cipherStop}
-use Rattle.secure_session.specs.declared.session.End.{End}
-use Rattle.secure_session.specs.declared.session.End.the-variants.{Controller, Reader}
-use Rattle.secure_session.specs.declared.session.State.{State}
-use Rattle.secure_session.specs.declared.session.State.the-variants.{Disconnected, Challenged, Cryptogrammed, Secure}
 use Rattle.secure_session.specs.declared.session.Session.{Session}
-use Rattle.secure_session.specs.declared.door.SessionFields.{SessionFields}
-use Rattle.secure_session.specs.declared.session.SteppedBlock.{SteppedBlock}
-use Rattle.secure_session.specs.declared.session.BlockAnswer.{BlockAnswer}
-use Rattle.secure_session.specs.declared.session.KeysAnswer.{KeysAnswer}
-use Rattle.secure_session.specs.Session.{endNumber, stateNumber, noKeys}
-use Rattle.secure_session.specs.Door.{doorOut, doorIn}
-use Rattle.secure_session.specs.Handshake.{Step, blockBeside}
-use Rattle.secure_session.specs.Channel.{keysBeside}
-use Rattle.ffi.specs.Answers.{cRefused, cRefusal, cYes, cOutcome}
-use Rattle.ffi.specs.Ciphers.{cKeys}
-use Rattle.ffi.specs.declared.keys.CKeys.{CKeys}
-use Rattle.ffi.specs.declared.session.CSession.{CSession}
-use Rattle.ffi.specs.declared.session.CStepped.{CStepped}
-use Rattle.ffi.specs.declared.session.CSteppedBlock.{CSteppedBlock}
-use Rattle.ffi.specs.declared.session.CBlockAnswer.{CBlockAnswer}
-use Rattle.ffi.specs.declared.session.EndRead.{EndRead}
-use Rattle.ffi.specs.declared.session.StateRead.{StateRead}
-use Rattle.ffi.specs.declared.session.Taken.{Taken}
-use Rattle.ffi.specs.declared.cipher.CCiphered.{CCiphered}
-use Rattle.ffi.specs.declared.channel.CKeysAnswer.{CKeysAnswer}
-
--- ---- a session that comes in
-
-unfoldable pub endArg : ℕ → Answer End
-endArg n = choose (eqb n 0) (given Controller) (choose (eqb n 1) (given Reader) (refused 16 []))
-
-unfoldable pub stateArg : ℕ → Answer State
-stateArg n =
-    choose (eqb n 0) (given Disconnected)
-    (choose (eqb n 1) (given Challenged)
-    (choose (eqb n 2) (given Cryptogrammed)
-    (choose (eqb n 3) (given Secure)
-    (refused 16 []))))
-
-abbrev pub keysArg : CKeys → SessionKeys
-keysArg k = record { «s_enc» = k .«s_enc»; «s_mac1» = k .«s_mac1»; «s_mac2» = k .«s_mac2» }
-
--- What C holds, as a session has it. C's fields and a session's meet here and in `cFields` alone; the wipe (`cWiped`) writes all of C's
--- fields a third time, since a session that cannot be read can be wiped too.
-abbrev pub fieldsArg : CSession → End → State → SessionFields
-fieldsArg c e t =
-    record { end = e; state = t; scbk = c .scbk; «rnd_a» = c .«rnd_a»; «rnd_b» = c .«rnd_b»; cuid = c .cuid; keys = keysArg (c .keys); chain = c .chain }
-
-abbrev pub sessionWith : CSession → End → State → Session
-sessionWith c e t = doorIn (fieldsArg c e t)
-
--- 16 where end is above 1 or state above 3
-unfoldable pub sessionArg : CSession → Answer Session
-sessionArg c = andThen (endArg (c .end)) (λ e. andThen (stateArg (c .state)) (λ t. given (sessionWith c e t)))
+use Rattle.secure_session.specs.Session.{noKeys}
+use Rattle.secure_session.specs.Handshake.{Step}
+use Rattle.crossing.specs.declared.session.CSession.{CSession}
+use Rattle.crossing.specs.declared.session.CStepped.{CStepped}
+use Rattle.crossing.specs.declared.session.CSteppedBlock.{CSteppedBlock}
+use Rattle.crossing.specs.declared.session.CBlockAnswer.{CBlockAnswer}
+use Rattle.crossing.specs.declared.cipher.CCiphered.{CCiphered}
+use Rattle.crossing.specs.declared.session.CKeysAnswer.{CKeysAnswer}
+use Rattle.crossing.specs.Answers.{cRefused, cRefusal}
+use Rattle.crossing.specs.Ciphers.{cKeys}
+use Rattle.crossing.specs.Sessions.{sessionArg, cStepped, cSteppedBlock, cBlockAnswer, cKeysAnswer}
 
 -- what comes of a session that can be read, and of one that cannot
 unfoldable pub reading : {B : Type 0} → Answer Session → (Session → B) → (ℕ → List ℕ → B) → B
 reading (given s) f g = f s
 reading (refused n vs) f g = g n vs
 
--- ---- a session that goes out
-
-abbrev pub cFields : SessionFields → CSession
-cFields f =
-    record { end = endNumber (f .end); state = stateNumber (f .state); scbk = f .scbk; «rnd_a» = f .«rnd_a»; «rnd_b» = f .«rnd_b»; cuid = f .cuid; keys = cKeys (f .keys); chain = f .chain }
-
-abbrev pub cSession : Session → CSession
-cSession s = cFields (doorOut s)
-
 -- everything zero but the byte that says which end it is
 abbrev pub cWiped : CSession → CSession
 cWiped c =
     record { end = c .end; state = 0; scbk = zeros 16; «rnd_a» = zeros 8; «rnd_b» = zeros 8; cuid = zeros 8; keys = cKeys noKeys; chain = zeros 16 }
-
--- ---- answers
-
-abbrev pub cStepped : Step (Unit {0}) → CStepped
-cStepped d = record { answer = cYes (d .answer); session = cSession (d .session) }
-
-abbrev pub cSteppedBlock : Step (List ℕ) → CSteppedBlock
-cSteppedBlock d = record { answer = cYes (d .answer); block = blockBeside (d .answer); session = cSession (d .session) }
-
-abbrev pub cBlockAnswer : Answer (List ℕ) → CBlockAnswer
-cBlockAnswer x = record { answer = cYes x; block = blockBeside x }
-
-abbrev pub cKeysAnswer : Answer SessionKeys → CKeysAnswer
-cKeysAnswer x = record { answer = cYes x; keys = cKeys (keysBeside x) }
 
 -- ---- the calls on what C hands in: one form for each kind of answer
 
@@ -116,29 +48,6 @@ keysAnswerArg c f = cKeysAnswer (andThen (sessionArg c) f)
 -- `o` is the buffer as it came
 unfoldable pub doneArg : CSession → List ℕ → (Session → Done) → Done
 doneArg c o f = reading (sessionArg c) f (λ n vs. cipherStop n vs o)
-
--- ---- the code's kinds
-
-abbrev pub endRead : EndRead → Answer End
-endRead (EndRead.Good e) = given e
-endRead (EndRead.Refused e) = refusalOf e
-
-abbrev pub stateRead : StateRead → Answer State
-stateRead (StateRead.Good t) = given t
-stateRead (StateRead.Refused e) = refusalOf e
-
-abbrev pub taken : Taken → Answer Session
-taken r = outcomeAnswer (r .outcome) (r .session)
-
--- as the code has them: what stands beside the outcome is told as it is
-abbrev pub toldBlock : SteppedBlock → CSteppedBlock
-toldBlock r = record { answer = cOutcome (r .outcome); block = r .block; session = cSession (r .session) }
-
-abbrev pub toldAnswer : BlockAnswer → CBlockAnswer
-toldAnswer r = record { answer = cOutcome (r .outcome); block = r .block }
-
-abbrev pub toldKeys : KeysAnswer → CKeysAnswer
-toldKeys r = record { answer = cOutcome (r .outcome); keys = cKeys (r .keys) }
 
 abbrev pub noStep : CSession → Refusal → CStepped
 noStep c e = record { answer = cRefusal e; session = c }

@@ -2,49 +2,29 @@
 ghost use mathlib.Core.Path.{_≡_};
 ghost use Rattle.refusal.specs.Paper.{refusalOf};
 ghost use Rattle.secure_session.specs.Channel.{makeMac, verifyOf, keysOf, lastOtherMacOf, sealDataOf, openDataOf};
-ghost use Rattle.ffi.specs.Ciphers.{cDone};
-ghost use Rattle.ffi.specs.Sessions.{steppedArg, steppedBlockArg, blockAnswerArg, keysAnswerArg, doneArg, cKeysAnswer, toldKeys, noCiphered};
-use super::answer::CAnswer;
-use super::answer::outcome_c;
-use super::answer::refused;
-use super::cipher::CCiphered;
-use super::cipher::ciphered_c;
-use super::keys::Bytes4;
-use super::keys::CKeys;
-use super::keys::keys_c;
-use super::session::CBlockAnswer;
-use super::session::CSession;
-use super::session::CStepped;
-use super::session::CSteppedBlock;
-use super::session::block_answer_c;
+ghost use Rattle.crossing.specs.Ciphers.{cDone};
+ghost use Rattle.crossing.specs.Sessions.{cKeysAnswer};
+ghost use Rattle.ffi.specs.Sessions.{steppedArg, steppedBlockArg, blockAnswerArg, keysAnswerArg, doneArg, noCiphered};
 use super::session::no_block;
 use super::session::no_step;
 use super::session::no_stepped_block;
-use super::session::stepped_block_c;
-use super::session::stepped_c;
-use super::session::take;
+use crossing::Bytes4;
+use crossing::CBlockAnswer;
+use crossing::CCiphered;
+use crossing::CKeys;
+use crossing::CKeysAnswer;
+use crossing::CSession;
+use crossing::CStepped;
+use crossing::CSteppedBlock;
+use crossing::block_answer_c;
+use crossing::ciphered_c;
+use crossing::keys_answer_c;
+use crossing::refused;
+use crossing::stepped_block_c;
+use crossing::stepped_c;
+use crossing::take;
 use refusal::Outcome;
 use refusal::Refusal;
-use secure_session::KeysAnswer;
-
-// Beside a refusal the keys are zeros.
-#[repr(C)]
-pub struct CKeysAnswer {
-    pub answer: CAnswer,
-    pub keys: CKeys,
-}
-
-fn keys_answer_c(r: KeysAnswer) -> CKeysAnswer
-    ensures { λ t. ⌜ t ≡ toldKeys r ⌝ }
-{
-    let outcome = r.outcome;
-    let k = r.keys;
-    let keys = keys_c(k);
-    CKeysAnswer {
-        answer: outcome_c(outcome),
-        keys,
-    }
-}
 
 fn no_keys(e: Refusal) -> CKeysAnswer
     ensures { λ t. ⌜ t ≡ cKeysAnswer (refusalOf e) ⌝ }

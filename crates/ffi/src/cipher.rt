@@ -6,35 +6,14 @@ ghost use Rattle.laws.specs.Buffer.{sized, written};
 ghost use Rattle.secure_cipher.specs.Pad.{padMac, padData, unpad, fitting};
 ghost use Rattle.secure_cipher.specs.Cbc.{encryptOf, decryptOf};
 ghost use Rattle.secure_cipher.specs.Mac.{macOf};
-ghost use Rattle.ffi.specs.Answers.{cAnswer};
-ghost use Rattle.ffi.specs.Ciphers.{cCiphered, cDone, cChain};
-use super::answer::CAnswer;
-use super::answer::length_c;
-use super::keys::Bytes16;
-use secure_cipher::Ciphered;
-
-// How many bytes, and how often the cipher was called.
-#[repr(C)]
-pub struct CCiphered {
-    pub answer: CAnswer,
-    pub calls: usize,
-}
-
-#[repr(C)]
-pub struct CChain {
-    pub full: [u8; 16],
-    pub calls: usize,
-}
-
-pub(crate) fn ciphered_c(c: Ciphered) -> CCiphered
-    ensures { λ r. ⌜ r ≡ cCiphered c ⌝ }
-{
-    let a = c.answer;
-    CCiphered {
-        answer: length_c(a),
-        calls: c.calls,
-    }
-}
+ghost use Rattle.crossing.specs.Answers.{cAnswer};
+ghost use Rattle.crossing.specs.Ciphers.{cDone, cChain};
+use crossing::Bytes16;
+use crossing::CAnswer;
+use crossing::CChain;
+use crossing::CCiphered;
+use crossing::ciphered_c;
+use crossing::length_c;
 
 #[no_mangle]
 pub extern "C" fn malstrink_pad_mac(data: &[u8], out: &mut [u8]) -> CAnswer

@@ -1,8 +1,8 @@
 // The calls on frames: sums, the small kinds, reading and building.
 use super::given;
 use super::want;
-use ffi::CMac;
-use ffi::CPacket;
+use crossing::CMac;
+use crossing::CPacket;
 
 fn control(w: &[u8], b: u8) -> usize {
     let c = ffi::malstrink_control_decode(b);

@@ -1,7 +1,7 @@
 // What a call is handed, taken out of a case. Beyond its end a case has zeros.
 ghost use Prim.Native.Nat.{_≤_};
-use ffi::Bytes8;
-use ffi::Bytes16;
+use crossing::Bytes8;
+use crossing::Bytes16;
 
 pub(crate) fn byte(x: &[u8], at: usize) -> u8 {
     if at < x.len() { x[at] } else { 0 }

@@ -4,11 +4,11 @@ use super::stored;
 use super::stored::session_like;
 use super::stored::session_of;
 use super::want;
-use ffi::Bytes4;
-use ffi::CBlockAnswer;
-use ffi::CStepped;
-use ffi::CSteppedBlock;
-use ffi::CToSeal;
+use crossing::Bytes4;
+use crossing::CBlockAnswer;
+use crossing::CStepped;
+use crossing::CSteppedBlock;
+use crossing::CToSeal;
 
 fn stepped(w: &[u8], s: CStepped) -> usize {
     let answer = s.answer;

@@ -5,9 +5,9 @@ use lib.ListN.{length}
 use Rattle.laws.specs.Buffer.{sized, written}
 use Rattle.refusal.specs.Paper.{numberOf, valuesOf}
 use Rattle.packet_build.specs.Build.{partsGiven}
-use Rattle.ffi.specs.Answers.{cAnswer}
-use Rattle.ffi.specs.Building.{partsArg, askedParts}
-use Rattle.ffi.specs.declared.build.AskedPacket.{AskedPacket}
+use Rattle.crossing.specs.Answers.{cAnswer}
+use Rattle.crossing.specs.Building.{partsArg, askedParts}
+use Rattle.crossing.specs.declared.build.AskedPacket.{AskedPacket}
 use Rattle.ffi.proofs.Args.{build-asked, build-not-asked, kindOfMac, mac-bytes}
 use borrow.Author.Needs.{needs}
 use Rattle.ffi.proofs.build.malstrink_build.Statement.{statement}

@@ -6,9 +6,9 @@ use Rattle.laws.specs.Buffer.{sized, written}
 use Rattle.refusal.specs.Paper.{numberOf, valuesOf}
 use Rattle.packet_build.specs.declared.codec.GivenMac.{GivenMac}
 use Rattle.packet_build.specs.Build.{partsGiven}
-use Rattle.ffi.specs.Answers.{cAnswer}
-use Rattle.ffi.specs.Building.{askedParts}
-use Rattle.ffi.specs.declared.build.AskedPacket.{AskedPacket}
+use Rattle.crossing.specs.Answers.{cAnswer}
+use Rattle.crossing.specs.Building.{askedParts}
+use Rattle.crossing.specs.declared.build.AskedPacket.{AskedPacket}
 use Rattle.ffi.proofs.Args.{body-asked, body-not-asked}
 use borrow.Author.Needs.{needs}
 use Rattle.ffi.proofs.build.malstrink_build_body.Statement.{statement}

@@ -10,13 +10,13 @@ returns : tie.Need-returns
 returns c =
     let t = c .before .before .before .before .before .take in
     let g = c .before .last-other-mac in
-    c .block-answer-c .ensures ∙ answer-read _ (t .result) (t .ensures) (c .before .before .enum-told .given .1) _ (g .result) (g .ensures .0) (g .ensures .1)
+    c .block-answer-c .ensures ∙ answer-read _ (t .result) (t .ensures .0) (c .before .before .enum-told .given .1) _ (g .result) (g .ensures .0) (g .ensures .1)
 
 returns-2 : tie.Need-returns-2
 returns-2 c =
     let t = c .before .before .before .before .before .take in
     let w = c .before .before .outcome .given in
-    c .no-block .ensures ∙ answer-not _ (t .result) (t .ensures) (w .0 .0) (w .1) _
+    c .no-block .ensures ∙ answer-not _ (t .result) (t .ensures .0) (w .0 .0) (w .1) _
 
 pub malstrink-session-last-other-mac-spec : {M : Type 1} → statement M
 malstrink-session-last-other-mac-spec =

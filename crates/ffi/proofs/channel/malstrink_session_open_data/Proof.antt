@@ -2,7 +2,7 @@
 -- Assumes nothing.
 use mathlib.Core.Path.{ap, _∙_}
 use Rattle.ffi.proofs.Taking.{done-read, done-not}
-use Rattle.ffi.specs.Ciphers.{cDone}
+use Rattle.crossing.specs.Ciphers.{cDone}
 use Rattle.secure_cipher.specs.Cbc.{Done}
 use borrow.Author.Needs.{needs}
 use Rattle.ffi.proofs.channel.malstrink_session_open_data.Statement.{statement}
@@ -11,14 +11,14 @@ use Rattle.ffi.proofs.channel.malstrink_session_open_data.Tie as tie
 returns : tie.Need-returns
 returns c =
     let t = c .before .before .before .before .before .before .before .before .take in
-    let g = done-read _ (t .result) (t .ensures) (c .before .before .before .before .before .enum-told .given .1) (c .before .before .before .before .before .before .before .before .before .before .before .args .out .now) _ _ (c .before .before .before .open-data .ensures) in
+    let g = done-read _ (t .result) (t .ensures .0) (c .before .before .before .before .before .enum-told .given .1) (c .before .before .before .before .before .before .before .before .before .before .before .args .out .now) _ _ (c .before .before .before .open-data .ensures) in
     (c .ciphered-c .ensures ∙ ap cDone g, ap (λ (x : Done). x .out) g)
 
 returns-2 : tie.Need-returns-2
 returns-2 c =
     let t = c .before .before .before .before .before .take in
     let w = c .before .before .outcome .given in
-    let g = done-not _ (t .result) (t .ensures) (w .0 .0) (w .1) (c .before .before .before .before .before .before .before .before .args .out .now) _ in
+    let g = done-not _ (t .result) (t .ensures .0) (w .0 .0) (w .1) (c .before .before .before .before .before .before .before .before .args .out .now) _ in
     (c .no-ciphered .ensures ∙ ap cDone g, ap (λ (x : Done). x .out) g)
 
 pub malstrink-session-open-data-spec : {M : Type 1} → statement M

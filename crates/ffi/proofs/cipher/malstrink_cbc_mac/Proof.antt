@@ -1,7 +1,7 @@
 -- `malstrink_cbc_mac` meets its contract: its callee's.
 -- Assumes nothing.
 use mathlib.Core.Path.{ap}
-use Rattle.ffi.specs.Ciphers.{cChain}
+use Rattle.crossing.specs.Ciphers.{cChain}
 use borrow.Author.Needs.{needs}
 use Rattle.ffi.proofs.cipher.malstrink_cbc_mac.Statement.{statement}
 use Rattle.ffi.proofs.cipher.malstrink_cbc_mac.Tie as tie

@@ -1,7 +1,7 @@
 -- `malstrink_decrypt_data` meets its contract: its callee's.
 -- Assumes nothing.
 use mathlib.Core.Path.{ap, _∙_}
-use Rattle.ffi.specs.Ciphers.{cDone}
+use Rattle.crossing.specs.Ciphers.{cDone}
 use Rattle.secure_cipher.specs.Cbc.{Done}
 use borrow.Author.Needs.{needs}
 use Rattle.ffi.proofs.cipher.malstrink_decrypt_data.Statement.{statement}

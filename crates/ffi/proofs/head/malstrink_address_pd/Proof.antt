@@ -1,7 +1,7 @@
 -- `malstrink_address_pd` meets its contract: its callee's.
 -- Assumes nothing.
 use mathlib.Core.Path.{ap, _∙_}
-use Rattle.ffi.specs.Answers.{cAnswer}
+use Rattle.crossing.specs.Answers.{cAnswer}
 use borrow.Author.Needs.{needs}
 use Rattle.ffi.proofs.head.malstrink_address_pd.Statement.{statement}
 use Rattle.ffi.proofs.head.malstrink_address_pd.Tie as tie

@@ -1,7 +1,7 @@
 -- `malstrink_control_decode` meets its contract: its callee's.
 -- Assumes nothing.
 use mathlib.Core.Path.{ap, _∙_}
-use Rattle.ffi.specs.Answers.{cControl}
+use Rattle.crossing.specs.Answers.{cControl}
 use borrow.Author.Needs.{needs}
 use Rattle.ffi.proofs.head.malstrink_control_decode.Statement.{statement}
 use Rattle.ffi.proofs.head.malstrink_control_decode.Tie as tie

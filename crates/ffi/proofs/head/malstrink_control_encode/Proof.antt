@@ -1,7 +1,7 @@
 -- `malstrink_control_encode` meets its contract: the number is made, then encoded with the flags.
 -- Assumes nothing.
 use mathlib.Core.Path.{sym, ap, _∙_}
-use Rattle.ffi.specs.Answers.{cAnswer}
+use Rattle.crossing.specs.Answers.{cAnswer}
 use Rattle.packet_head.specs.Header.{sqnAnswer, encodeOf}
 use Rattle.laws.proofs.Answers.{then-given, then-refused}
 use Prim.Native.Nat.{ℕ}

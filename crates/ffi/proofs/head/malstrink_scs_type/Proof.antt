@@ -1,7 +1,7 @@
 -- `malstrink_scs_type` meets its contract: its callee's.
 -- Assumes nothing.
 use mathlib.Core.Path.{ap, _∙_}
-use Rattle.ffi.specs.Answers.{cAnswer}
+use Rattle.crossing.specs.Answers.{cAnswer}
 use borrow.Author.Needs.{needs}
 use Rattle.ffi.proofs.head.malstrink_scs_type.Statement.{statement}
 use Rattle.ffi.proofs.head.malstrink_scs_type.Tie as tie

@@ -1,7 +1,7 @@
 -- `malstrink_sqn_new` meets its contract: its callee's.
 -- Assumes nothing.
 use mathlib.Core.Path.{ap, _∙_}
-use Rattle.ffi.specs.Answers.{cAnswer}
+use Rattle.crossing.specs.Answers.{cAnswer}
 use borrow.Author.Needs.{needs}
 use Rattle.ffi.proofs.head.malstrink_sqn_new.Statement.{statement}
 use Rattle.ffi.proofs.head.malstrink_sqn_new.Tie as tie

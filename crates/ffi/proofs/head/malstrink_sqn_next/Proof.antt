@@ -1,7 +1,7 @@
 -- `malstrink_sqn_next` meets its contract: the number is made, then moved on.
 -- Assumes nothing.
 use mathlib.Core.Path.{sym, ap, _∙_}
-use Rattle.ffi.specs.Answers.{cAnswer}
+use Rattle.crossing.specs.Answers.{cAnswer}
 use Rattle.packet_head.specs.Header.{sqnAnswer, nextOf}
 use Rattle.laws.proofs.Answers.{then-given, then-refused}
 use borrow.Author.Needs.{needs}

@@ -1,7 +1,7 @@
 -- `malstrink_derive` meets its contract: its callee's.
 -- Assumes nothing.
 use mathlib.Core.Path.{ap, _∙_}
-use Rattle.ffi.specs.Ciphers.{cKeys}
+use Rattle.crossing.specs.Ciphers.{cKeys}
 use borrow.Author.Needs.{needs}
 use Rattle.ffi.proofs.keys.malstrink_derive.Statement.{statement}
 use Rattle.ffi.proofs.keys.malstrink_derive.Tie as tie

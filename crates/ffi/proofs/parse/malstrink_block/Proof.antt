@@ -1,7 +1,7 @@
 -- `malstrink_block` meets its contract: its callee's.
 -- Assumes nothing.
 use mathlib.Core.Path.{ap, _∙_}
-use Rattle.ffi.specs.Parsing.{cBlock}
+use Rattle.crossing.specs.Parsing.{cBlock}
 use borrow.Author.Needs.{needs}
 use Rattle.ffi.proofs.parse.malstrink_block.Statement.{statement}
 use Rattle.ffi.proofs.parse.malstrink_block.Tie as tie

@@ -1,7 +1,7 @@
 -- `malstrink_head` meets its contract: its callee's.
 -- Assumes nothing.
 use mathlib.Core.Path.{ap, _∙_}
-use Rattle.ffi.specs.Parsing.{cHead}
+use Rattle.crossing.specs.Parsing.{cHead}
 use borrow.Author.Needs.{needs}
 use Rattle.ffi.proofs.parse.malstrink_head.Statement.{statement}
 use Rattle.ffi.proofs.parse.malstrink_head.Tie as tie

@@ -1,7 +1,7 @@
 -- `malstrink_parse` meets its contract: its callee's.
 -- Assumes nothing.
 use mathlib.Core.Path.{ap, _∙_}
-use Rattle.ffi.specs.Parsing.{cParsed}
+use Rattle.crossing.specs.Parsing.{cParsed}
 use borrow.Author.Needs.{needs}
 use Rattle.ffi.proofs.parse.malstrink_parse.Statement.{statement}
 use Rattle.ffi.proofs.parse.malstrink_parse.Tie as tie

@@ -1,7 +1,7 @@
 -- `malstrink_payload_test` meets its contract: its callee's.
 -- Assumes nothing.
 use mathlib.Core.Path.{ap, _∙_}
-use Rattle.ffi.specs.Answers.{cYes}
+use Rattle.crossing.specs.Answers.{cYes}
 use borrow.Author.Needs.{needs}
 use Rattle.ffi.proofs.seal.malstrink_payload_test.Statement.{statement}
 use Rattle.ffi.proofs.seal.malstrink_payload_test.Tie as tie

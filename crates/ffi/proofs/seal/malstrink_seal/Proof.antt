@@ -12,7 +12,7 @@ returns c =
     let t = c .before .before .before .before .before .before .before .before .take in
     let a = c .before .before .before .before .before .before .before .before .before .before .before .args in
     let d = c .before .before .before .seal-asked in
-    let g = seal-read _ (t .result) (t .ensures) (c .before .before .before .before .before .enum-told .given .1) (a .p) (a .«data» .now) (a .out .now) (d .result) _ (d .ensures) in
+    let g = seal-read _ (t .result) (t .ensures .0) (c .before .before .before .before .before .enum-told .given .1) (a .p) (a .«data» .now) (a .out .now) (d .result) _ (d .ensures) in
     (c .sealed-c .ensures ∙ ap (λ (x : SealedC). x .told) g, ap (λ (x : SealedC). x .out) g)
 
 returns-2 : tie.Need-returns-2
@@ -20,7 +20,7 @@ returns-2 c =
     let t = c .before .before .before .before .before .take in
     let a = c .before .before .before .before .before .before .before .before .args in
     let w = c .before .before .outcome .given in
-    let g = seal-not _ (t .result) (t .ensures) (w .0 .0) (w .1) (a .p) (a .«data» .now) (a .out .now) in
+    let g = seal-not _ (t .result) (t .ensures .0) (w .0 .0) (w .1) (a .p) (a .«data» .now) (a .out .now) in
     (rw (c .refused .ensures) (ap (λ (x : SealedC). x .told) g), ap (λ (x : SealedC). x .out) g)
 
 pub malstrink-seal-spec : {M : Type 1} → statement M

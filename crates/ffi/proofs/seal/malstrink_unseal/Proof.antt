@@ -12,7 +12,7 @@ returns c =
     let t = c .before .before .before .before .before .before .before .before .take in
     let a = c .before .before .before .before .before .before .before .before .before .before .before .args in
     let d = c .before .before .before .unseal in
-    let g = unseal-read _ (t .result) (t .ensures) (c .before .before .before .before .before .enum-told .given .1) (a .frame .now) (a .work .now) (d .result) _ (d .ensures) in
+    let g = unseal-read _ (t .result) (t .ensures .0) (c .before .before .before .before .before .enum-told .given .1) (a .frame .now) (a .work .now) (d .result) _ (d .ensures) in
     (c .unsealed-c .ensures ∙ ap (λ (x : UnsealedC). x .told) g, ap (λ (x : UnsealedC). x .work) g)
 
 returns-2 : tie.Need-returns-2
@@ -20,8 +20,8 @@ returns-2 c =
     let t = c .before .before .before .before .before .take in
     let a = c .before .before .before .before .before .before .before .before .args in
     let w = c .before .before .outcome .given in
-    let g = unseal-not _ (t .result) (t .ensures) (w .0 .0) (w .1) (a .frame .now) (a .work .now) in
-    (c .place-c .ensures ∙ ap (λ (x : UnsealedC). x .told) g, ap (λ (x : UnsealedC). x .work) g)
+    let g = unseal-not _ (t .result) (t .ensures .0) (w .0 .0) (w .1) (a .frame .now) (a .work .now) in
+    (c .no-payload .ensures ∙ ap (λ (x : UnsealedC). x .told) g, ap (λ (x : UnsealedC). x .work) g)
 
 pub malstrink-unseal-spec : {M : Type 1} → statement M
 malstrink-unseal-spec =

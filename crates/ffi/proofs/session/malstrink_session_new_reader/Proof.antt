@@ -1,7 +1,7 @@
 -- `malstrink_session_new_reader` meets its contract: its callee's.
 -- Assumes nothing.
 use mathlib.Core.Path.{ap, _∙_}
-use Rattle.ffi.specs.Sessions.{cSession}
+use Rattle.crossing.specs.Sessions.{cSession}
 use borrow.Author.Needs.{needs}
 use Rattle.ffi.proofs.session.malstrink_session_new_reader.Statement.{statement}
 use Rattle.ffi.proofs.session.malstrink_session_new_reader.Tie as tie

@@ -9,13 +9,13 @@ use Rattle.ffi.proofs.session.malstrink_session_receive_ccrypt.Tie as t
 returns : tie.Need-returns
 returns c =
     let t = c .before .before .before .before .before .before .before .before .take in
-    c .stepped-c .ensures ∙ stepped-read _ (t .result) (t .ensures) (c .before .before .before .before .before .enum-told .given .1) _ _ (c .before .receive-ccrypt .ensures)
+    c .stepped-c .ensures ∙ stepped-read _ (t .result) (t .ensures .0) (c .before .before .before .before .before .enum-told .given .1) _ _ (c .before .receive-ccrypt .ensures)
 
 returns-2 : tie.Need-returns-2
 returns-2 c =
     let t = c .before .before .before .before .before .take in
     let w = c .before .before .outcome .given in
-    c .no-step .ensures ∙ stepped-not _ (t .result) (t .ensures) (w .0 .0) (w .1) _
+    c .no-step .ensures ∙ stepped-not _ (t .result) (t .ensures .0) (w .0 .0) (w .1) _
 
 pub malstrink-session-receive-ccrypt-spec : {M : Type 1} → statement M
 malstrink-session-receive-ccrypt-spec =
