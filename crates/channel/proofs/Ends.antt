@@ -4,7 +4,7 @@ use mathlib.Core.List.{List}
 use mathlib.Core.Path.{_≡_, sym, _∙_}
 use Prim.Native.Nat.{ℕ}
 use Rattle.laws.specs.Blocks.{Block}
-use Rattle.secure_session.specs.Session.{sendFrom, recvFrom, sent, received}
+use Rattle.secure_session.specs.Chain.{sendFrom, recvFrom, sent, received}
 use Rattle.secure_session.specs.declared.session.Session.{Session}
 use Rattle.secure_session.proofs.SessionLaws.{send-sent, recv-sent, sent-state, sent-keys, send-received, recv-received, received-state, received-keys}
 use Rattle.secure_session.proofs.Shaken.{Ready}

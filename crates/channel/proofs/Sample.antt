@@ -99,7 +99,7 @@ used e k y = record {
   «rnd_b» = replicate 8 y;
   cuid = replicate 8 y;
   keys = record { «s_enc» = replicate 16 y; «s_mac1» = replicate 16 y; «s_mac2» = replicate 16 y };
-  chain = replicate 16 y;
+  chain = record { value = replicate 16 y };
 }
 
 -- between these ends; a and b are the random numbers' bytes, x stands in the encrypted payloads

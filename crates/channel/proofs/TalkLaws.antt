@@ -15,7 +15,8 @@ use Rattle.packet_head.specs.Trailer.{Tail}
 use Rattle.packet.proofs.Built.{tailOf}
 use Rattle.secure_keys.specs.declared.crypto.SessionKeys.{SessionKeys}
 use Rattle.secure_keys.proofs.KeysLaws.{GoodKeys}
-use Rattle.secure_session.specs.Session.{isSecure, sendFrom, recvFrom, sent, received}
+use Rattle.secure_session.specs.Chain.{sendFrom, recvFrom, sent, received}
+use Rattle.secure_session.specs.Session.{isSecure}
 use Rattle.secure_session.specs.declared.session.End.{End}
 use Rattle.secure_session.specs.declared.session.End.the-variants.{Controller, Reader}
 use Rattle.secure_session.specs.declared.session.Session.{Session}

@@ -9,7 +9,7 @@ use Rattle.laws.specs.Answer.{Answer.given}
 use Rattle.packet_parse.specs.Frame.{Fields, macStart, parseOf}
 use Rattle.secure_keys.specs.Keys.{Random}
 use Rattle.secure_session.specs.Apart.{Apart}
-use Rattle.secure_session.specs.Session.{sendFrom, recvFrom, sent, received}
+use Rattle.secure_session.specs.Chain.{sendFrom, recvFrom, sent, received}
 use Rattle.secure_session.specs.declared.session.Session.{Session}
 use Rattle.secure_seal.specs.Seal.{Sealable, dataLenFor, totalOf, sealedFrame}
 use Rattle.channel.specs.Handshake.{Hand, Wires, WiresFit, shakeIn, Succeeded}

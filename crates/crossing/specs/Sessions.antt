@@ -52,7 +52,7 @@ keysArg k = record { «s_enc» = k .«s_enc»; «s_mac1» = k .«s_mac1»; «s_m
 -- fields a third time, since a session that cannot be read can be wiped too.
 abbrev pub fieldsArg : CSession → End → State → SessionFields
 fieldsArg c e t =
-    record { end = e; state = t; scbk = c .scbk; «rnd_a» = c .«rnd_a»; «rnd_b» = c .«rnd_b»; cuid = c .cuid; keys = keysArg (c .keys); chain = c .chain }
+    record { end = e; state = t; scbk = c .scbk; «rnd_a» = c .«rnd_a»; «rnd_b» = c .«rnd_b»; cuid = c .cuid; keys = keysArg (c .keys); chain = record { value = c .chain } }
 
 abbrev pub sessionWith : CSession → End → State → Session
 sessionWith c e t = doorIn (fieldsArg c e t)
@@ -70,7 +70,7 @@ sessionBeside c (refused n vs) = sessionWith c Controller Disconnected
 
 abbrev pub cFields : SessionFields → CSession
 cFields f =
-    record { end = endNumber (f .end); state = stateNumber (f .state); scbk = f .scbk; «rnd_a» = f .«rnd_a»; «rnd_b» = f .«rnd_b»; cuid = f .cuid; keys = cKeys (f .keys); chain = f .chain }
+    record { end = endNumber (f .end); state = stateNumber (f .state); scbk = f .scbk; «rnd_a» = f .«rnd_a»; «rnd_b» = f .«rnd_b»; cuid = f .cuid; keys = cKeys (f .keys); chain = f .chain .value }
 
 abbrev pub cSession : Session → CSession
 cSession s = cFields (doorOut s)

@@ -13,6 +13,7 @@ use refusal::Outcome;
 use refusal::Refusal;
 use secure_keys::SessionKeys;
 use secure_session::BlockAnswer;
+use secure_session::Chain;
 use secure_session::End;
 use secure_session::KeysAnswer;
 use secure_session::Session;
@@ -115,7 +116,7 @@ fn fields_of(c: CSession, end: End, state: State) -> SessionFields
     let s_enc = k.s_enc;
     let s_mac1 = k.s_mac1;
     let s_mac2 = k.s_mac2;
-    let chain = c.chain;
+    let value = c.chain;
     SessionFields {
         end,
         state,
@@ -128,7 +129,7 @@ fn fields_of(c: CSession, end: End, state: State) -> SessionFields
             s_mac1,
             s_mac2,
         },
-        chain,
+        chain: Chain { value },
     }
 }
 
@@ -180,7 +181,8 @@ fn fields_c(f: SessionFields) -> CSession
     let rnd_b = f.rnd_b;
     let cuid = f.cuid;
     let keys = keys_c(f.keys);
-    let chain = f.chain;
+    let kept = f.chain;
+    let chain = kept.value;
     CSession {
         end: end_number(end),
         state: state_number(state),

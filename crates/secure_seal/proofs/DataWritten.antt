@@ -14,7 +14,8 @@ use Rattle.laws.specs.Over.{write}
 use Rattle.secure_cipher.specs.Cbc.{Done, hide, hiddenLen, encryptOf, cipherTold}
 use Rattle.secure_cipher.specs.declared.cipher.Ciphered.{Ciphered}
 use Rattle.secure_session.specs.Channel.{sealDataOf}
-use Rattle.secure_session.specs.Session.{isSecure, sendFrom}
+use Rattle.secure_session.specs.Chain.{sendFrom}
+use Rattle.secure_session.specs.Session.{isSecure}
 use Rattle.secure_session.specs.declared.session.Session.{Session}
 use Rattle.secure_session.proofs.SecureLaws.{secure-seal-data}
 use Rattle.secure_seal.specs.Seal.{dataLenFor, dataOf}

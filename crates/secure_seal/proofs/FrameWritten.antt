@@ -22,7 +22,7 @@ use Rattle.secure_cipher.specs.Mac.{macCalls}
 use Rattle.secure_cipher.proofs.CbcLaws.{steps-hide}
 use Rattle.secure_cipher.proofs.MacLaws.{mac-counted}
 use Rattle.secure_session.specs.Channel.{sessionMac}
-use Rattle.secure_session.specs.Session.{sendFrom, sent}
+use Rattle.secure_session.specs.Chain.{sendFrom, sent}
 use Rattle.secure_session.specs.declared.session.Session.{Session}
 use Rattle.secure_seal.specs.Seal.{typeFor, dataLenFor, dataOf, Asked, totalOf, partsWith, bodyWith, sealedFrame}
 use Rattle.secure_seal.specs.Parts.{Put}

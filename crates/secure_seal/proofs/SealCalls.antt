@@ -8,7 +8,7 @@ use Rattle.laws.specs.Answer.{Answer, Answer.given, Answer.refused}
 use Rattle.laws.specs.Blocks.{Block}
 use Rattle.laws.proofs.Answers.{given-refused}
 use Rattle.secure_keys.proofs.KeysLaws.{GoodKeys}
-use Rattle.secure_session.specs.Session.{sendFrom}
+use Rattle.secure_session.specs.Chain.{sendFrom}
 use Rattle.secure_session.specs.declared.session.Session.{Session}
 use Rattle.secure_seal.specs.Seal.{Asked, Sealable, SealedFrame, sealing, sealRun, sealOf}
 use Rattle.secure_seal.proofs.SealLaws.{stepsFor, frame-steps}

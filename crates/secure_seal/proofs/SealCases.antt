@@ -11,7 +11,8 @@ use Rattle.laws.proofs.Answers.{Holds, holds-refuse, holds-given}
 use Rattle.refusal.specs.Paper.{refusalOf}
 use Rattle.refusal.specs.declared.Refusal.{Refusal}
 use Rattle.refusal.specs.declared.Refusal.the-variants.{WrongState}
-use Rattle.secure_session.specs.Session.{isSecure, sendFrom}
+use Rattle.secure_session.specs.Chain.{sendFrom}
+use Rattle.secure_session.specs.Session.{isSecure}
 use Rattle.secure_session.specs.declared.session.Session.{Session}
 use Rattle.secure_seal.specs.Seal.{Asked, totalOf, sealedFrame, frameTest, sealing, sealRun, SealDone, afterSeal, sealedOn, sealOf, sealTold}
 use Rattle.secure_seal.specs.Parts.{Put, refusedWith}

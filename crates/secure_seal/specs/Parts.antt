@@ -9,7 +9,7 @@ use Rattle.refusal.specs.Reading.{lengthAnswer}
 use Rattle.refusal.specs.declared.LengthAnswer.{LengthAnswer}
 use Rattle.refusal.specs.declared.Refusal.{Refusal}
 use Rattle.secure_session.specs.declared.session.Session.{Session}
-use Rattle.secure_session.specs.Session.{sendFrom, sent}
+use Rattle.secure_session.specs.Chain.{sendFrom, sent}
 use Rattle.secure_seal.specs.Seal.{Asked, totalOf, sealedFrame}
 use Rattle.secure_seal.specs.declared.frame.Sealed.{Sealed}
 

@@ -16,7 +16,8 @@ use Rattle.secure_keys.specs.declared.crypto.SessionKeys.{SessionKeys}
 use Rattle.refusal.specs.Reading.{lengthAnswer}
 use Rattle.secure_cipher.specs.Mac.{macOf}
 use Rattle.secure_cipher.specs.Cbc.{Hidden, hide, hiddenLen}
-use Rattle.secure_session.specs.Session.{isSecure, sendFrom, sent}
+use Rattle.secure_session.specs.Chain.{sendFrom, sent}
+use Rattle.secure_session.specs.Session.{isSecure}
 use Rattle.secure_session.specs.declared.session.State.{State}
 use Rattle.secure_session.specs.declared.session.Session.{Session}
 use Rattle.secure_seal.specs.declared.frame.Direction.{Direction}

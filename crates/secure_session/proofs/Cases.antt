@@ -11,9 +11,11 @@ use Rattle.laws.specs.Bytes.{zeros, eql}
 use Rattle.secure_keys.specs.Keys.{derive, clientOf, firstOf}
 use Rattle.secure_keys.specs.declared.crypto.SessionKeys.{SessionKeys}
 use Rattle.secure_session.specs.Handshake.{Step, challengeOf, receiveCcryptOf, serverFor, serverCryptogramOf, initialRmacOf, confirmOf, receiveChallengeOf, receiveScryptOf, blockBeside}
-use Rattle.secure_session.specs.Session.{endNumber, stateNumber, isAt, fresh, reset, withStep, withChain, secured}
+use Rattle.secure_session.specs.Chain.{firstChain, withChain}
+use Rattle.secure_session.specs.Session.{endNumber, stateNumber, isAt, fresh, reset, withStep, secured}
 use Rattle.secure_session.specs.declared.session.End.the-variants.{Controller, Reader}
 use Rattle.secure_session.specs.declared.session.End.{End}
+use Rattle.secure_session.specs.declared.chain.Chain.{Chain}
 use Rattle.secure_session.specs.declared.session.Session.{Session}
 use Rattle.secure_session.specs.declared.session.State.the-variants.{Disconnected, Challenged, Cryptogrammed, Secure}
 use Rattle.secure_session.specs.declared.session.State.{State}
@@ -38,9 +40,10 @@ pub reset-reader : (s : Session) → s .end ≡ Reader → fresh (s .end) (s .sc
 unfolding reset
 reset-reader s h = rw h
 
-pub with-chain : (s : Session) (m : List ℕ) {n : Session} → n ≡ withStep s Secure (s .«rnd_a») (s .«rnd_b») (s .cuid) (s .keys) → withChain n m ≡ secured s m
+pub with-chain : (s : Session) (m : List ℕ) {n : Session} {c : Chain}
+    → n ≡ withStep s Secure (s .«rnd_a») (s .«rnd_b») (s .cuid) (s .keys) → c ≡ firstChain m → withChain n c ≡ secured s m
 unfolding secured
-with-chain s m h = ap (λ (n : Session). withChain n m) h
+with-chain s m h g = ap₂ withChain h g
 
 -- ---- the handshake's calls
 

@@ -10,7 +10,8 @@ use Rattle.laws.specs.Bytes.{compl, eql}
 use Rattle.secure_keys.specs.declared.crypto.SessionKeys.{SessionKeys}
 use Rattle.secure_cipher.specs.Cbc.{Done, cipherStop, encryptOf, decryptOf}
 use Rattle.secure_session.specs.Channel.{sessionMac, makeMac, verifyOf, keysOf, lastOtherMacOf, sealDataOf, openDataOf, keysBeside}
-use Rattle.secure_session.specs.Session.{isSecure, sendFrom, recvFrom, sent, received}
+use Rattle.secure_session.specs.Chain.{sendFrom, recvFrom, sent, received}
+use Rattle.secure_session.specs.Session.{isSecure}
 use Rattle.secure_session.specs.declared.session.Session.{Session}
 use Rattle.secure_session.proofs.Cases.{stepDone, stepNo}
 

@@ -15,7 +15,8 @@ use Rattle.refusal.specs.declared.Refusal.{Refusal}
 use Rattle.secure_cipher.specs.Cbc.{encryptOf, decryptOf}
 use Rattle.secure_session.specs.Channel.{sessionMac, makeMac, verifyOf, sealDataOf, openDataOf}
 use Rattle.secure_session.specs.Handshake.{Step, stepped, steppedBlock, blockBeside}
-use Rattle.secure_session.specs.Session.{isSecure, sendFrom, recvFrom, sent, received}
+use Rattle.secure_session.specs.Chain.{sendFrom, recvFrom, sent, received}
+use Rattle.secure_session.specs.Session.{isSecure}
 use Rattle.secure_session.specs.declared.session.Session.{Session}
 use Rattle.secure_session.specs.declared.session.Stepped.{Stepped}
 use Rattle.secure_session.specs.declared.session.SteppedBlock.{SteppedBlock}

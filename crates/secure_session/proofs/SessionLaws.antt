@@ -1,19 +1,25 @@
--- The laws of the chain's five names: what else is said of a session rests on these, and not on where the chain value is kept.
+-- The laws of the chain's names: what else is said of a session rests on these, and not on where the chain value is kept.
 -- Assumes nothing.
 use mathlib.Core.List.{List}
 use mathlib.Core.Path.{_≡_, refl}
 use Prim.Native.Nat.{ℕ}
 use Rattle.laws.specs.Blocks.{Block}
-use Rattle.secure_session.specs.Session.{sendFrom, recvFrom, sent, received, secured}
+use Rattle.secure_session.specs.Chain.{firstChain, sendFrom, recvFrom, sent, received}
+use Rattle.secure_session.specs.Session.{secured}
+use Rattle.secure_session.specs.declared.chain.Chain.{Chain}
 use Rattle.secure_session.specs.declared.session.Session.{Session}
 use Rattle.secure_session.specs.declared.session.State.the-variants.{Secure}
 
--- what the field holds is what a MAC starts from
-pub send-block : (s : Session) → Block (s .chain) → Block (sendFrom s)
+-- each value that a chain keeps is a block
+abbrev pub Kept : Chain → Type 0
+Kept c = Block (c .value)
+
+-- what the chain keeps is what a MAC starts from
+pub send-block : (s : Session) → Kept (s .chain) → Block (sendFrom s)
 unfolding sendFrom
 send-block s h = h
 
-pub recv-block : (s : Session) → Block (s .chain) → Block (recvFrom s)
+pub recv-block : (s : Session) → Kept (s .chain) → Block (recvFrom s)
 unfolding recvFrom
 recv-block s h = h
 
@@ -54,11 +60,11 @@ module _ (s : Session) (m : List ℕ) where
 
   -- with the first chain value
   pub send-secured : sendFrom (secured s m) ≡ m
-  unfolding sendFrom secured
+  unfolding sendFrom secured firstChain
   send-secured = refl
 
   pub recv-secured : recvFrom (secured s m) ≡ m
-  unfolding recvFrom secured
+  unfolding recvFrom secured firstChain
   recv-secured = refl
 
   pub secured-state : secured s m .state ≡ Secure

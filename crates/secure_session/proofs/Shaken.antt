@@ -14,7 +14,8 @@ use Rattle.secure_keys.specs.declared.crypto.SessionKeys.{SessionKeys}
 use Rattle.secure_keys.proofs.KeysLaws.{GoodKeys, derive-good, server-block, first-block}
 use Rattle.secure_session.specs.Apart.{Apart}
 use Rattle.secure_session.specs.Handshake.{challengeOf, receiveCcryptOf, serverCryptogramOf, confirmOf, receiveChallengeOf, receiveScryptOf}
-use Rattle.secure_session.specs.Session.{endNumber, stateNumber, isAt, withStep, secured, sendFrom, recvFrom}
+use Rattle.secure_session.specs.Chain.{sendFrom, recvFrom}
+use Rattle.secure_session.specs.Session.{endNumber, stateNumber, isAt, withStep, secured}
 use Rattle.secure_session.specs.declared.session.End.the-variants.{Controller, Reader}
 use Rattle.secure_session.specs.declared.session.End.{End}
 use Rattle.secure_session.specs.declared.session.Session.{Session}

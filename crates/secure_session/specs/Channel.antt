@@ -10,7 +10,8 @@ use Rattle.refusal.specs.Reading.{outcomeAnswer}
 use Rattle.secure_keys.specs.declared.crypto.SessionKeys.{SessionKeys}
 use Rattle.secure_cipher.specs.Mac.{Mac, macOf}
 use Rattle.secure_cipher.specs.Cbc.{Done, cipherStop, encryptOf, decryptOf}
-use Rattle.secure_session.specs.Session.{isSecure, noKeys, sendFrom, recvFrom, sent, received}
+use Rattle.secure_session.specs.Chain.{sendFrom, recvFrom, sent, received}
+use Rattle.secure_session.specs.Session.{isSecure, noKeys}
 use Rattle.secure_session.specs.Handshake.{Step, wrongState}
 use Rattle.secure_session.specs.declared.session.Session.{Session}
 use Rattle.secure_session.specs.declared.session.KeysAnswer.{KeysAnswer}

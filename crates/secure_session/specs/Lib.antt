@@ -1,3 +1,4 @@
+pub mod Chain
 pub mod Session
 pub mod Handshake
 pub mod Apart

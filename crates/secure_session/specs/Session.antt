@@ -1,4 +1,4 @@
--- The session's record and its chain value (docs/RULES.md, 7).
+-- The session's record (docs/RULES.md, 7).
 -- Assumes nothing.
 use Prim.Native.Nat.{ℕ}
 use mathlib.Core.Bool.{Bool, _&&_}
@@ -6,6 +6,7 @@ use mathlib.Core.List.{List}
 use lib.Dec.{eqb}
 use Rattle.laws.specs.Bytes.{zeros}
 use Rattle.secure_keys.specs.declared.crypto.SessionKeys.{SessionKeys}
+use Rattle.secure_session.specs.Chain.{noChain, firstChain, withChain}
 use Rattle.secure_session.specs.declared.session.End.{End}
 use Rattle.secure_session.specs.declared.session.End.the-variants.{Controller, Reader}
 use Rattle.secure_session.specs.declared.session.State.{State}
@@ -40,7 +41,7 @@ noKeys = record { «s_enc» = zeros 16; «s_mac1» = zeros 16; «s_mac2» = zero
 -- Disconnected, with SCBK and cUID and nothing else
 unfoldable pub fresh : End → List ℕ → List ℕ → Session
 fresh e scbk cuid =
-    record { end = e; state = Disconnected; scbk = scbk; «rnd_a» = zeros 8; «rnd_b» = zeros 8; cuid = cuid; keys = noKeys; chain = zeros 16 }
+    record { end = e; state = Disconnected; scbk = scbk; «rnd_a» = zeros 8; «rnd_b» = zeros 8; cuid = cuid; keys = noKeys; chain = noChain }
 
 -- what a failed handshake keeps of the cUID: the reader's own
 abbrev keptCuid : End → List ℕ → List ℕ
@@ -59,27 +60,6 @@ wipedOf s = fresh (s .end) (zeros 16) (zeros 8)
 abbrev pub withStep : Session → State → List ℕ → List ℕ → List ℕ → SessionKeys → Session
 withStep s t a b u k = record { end = s .end; state = t; scbk = s .scbk; «rnd_a» = a; «rnd_b» = b; cuid = u; keys = k; chain = s .chain }
 
--- ---- the chain value, touched only through these five
-
-abbrev pub withChain : Session → List ℕ → Session
-withChain s m = record { end = s .end; state = s .state; scbk = s .scbk; «rnd_a» = s .«rnd_a»; «rnd_b» = s .«rnd_b»; cuid = s .cuid; keys = s .keys; chain = m }
-
--- where a MAC that is made starts
-unfoldable pub sendFrom : Session → List ℕ
-sendFrom s = s .chain
-
--- where a MAC that is checked starts
-unfoldable pub recvFrom : Session → List ℕ
-recvFrom s = s .chain
-
--- after a MAC was made, in full m
-unfoldable pub sent : Session → List ℕ → Session
-sent s m = withChain s m
-
--- after a MAC was found right, in full m
-unfoldable pub received : Session → List ℕ → Session
-received s m = withChain s m
-
 -- Secure, with the first chain value m
 unfoldable pub secured : Session → List ℕ → Session
-secured s m = withChain (withStep s Secure (s .«rnd_a») (s .«rnd_b») (s .cuid) (s .keys)) m
+secured s m = withChain (withStep s Secure (s .«rnd_a») (s .«rnd_b») (s .cuid) (s .keys)) (firstChain m)

@@ -1,7 +1,8 @@
 // What a session that is Secure does to bytes, at either end.
 ghost use mathlib.Core.Path.{_≡_};
 ghost use Rattle.secure_cipher.specs.Cbc.{cipherTold};
-ghost use Rattle.secure_session.specs.Session.{isSecure, sendFrom, recvFrom, sent, received};
+ghost use Rattle.secure_session.specs.Chain.{sendFrom, recvFrom, sent, received};
+ghost use Rattle.secure_session.specs.Session.{isSecure};
 ghost use Rattle.secure_session.specs.Handshake.{stepped, steppedBlock, blockAnswer, blockBeside};
 ghost use Rattle.secure_session.specs.Channel.{sessionMac, makeMac, verifyOf, keysOf, lastOtherMacOf, sealDataOf, openDataOf, keysAnswer, keysBeside};
 use super::session;
@@ -22,38 +23,6 @@ impl Session {
     {
         let state = self.state;
         session::state_number(state) == 3
-    }
-
-    // Where a MAC that is made starts.
-    fn send_from(self) -> [u8; 16]
-        ensures { λ r. ⌜ r ≡ sendFrom self ⌝ }
-    {
-        self.chain
-    }
-
-    // Where a MAC that is checked starts.
-    fn recv_from(self) -> [u8; 16]
-        ensures { λ r. ⌜ r ≡ recvFrom self ⌝ }
-    {
-        self.chain
-    }
-
-    // After a MAC was made.
-    fn sent(self, full: [u8; 16]) -> Session
-        ensures { λ r. ⌜ r ≡ sent self full ⌝ }
-    {
-        let mut s = self;
-        s.chain = full;
-        s
-    }
-
-    // After a MAC was found right.
-    fn received(self, full: [u8; 16]) -> Session
-        ensures { λ r. ⌜ r ≡ received self full ⌝ }
-    {
-        let mut s = self;
-        s.chain = full;
-        s
     }
 
     // The full MAC from a chain value on, with the session's keys.

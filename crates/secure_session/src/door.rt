@@ -2,6 +2,7 @@
 // else beside the calls of the handshake and the channel, make a session or show what it holds. Only the crate `ffi` uses them.
 ghost use mathlib.Core.Path.{_≡_};
 ghost use Rattle.secure_session.specs.Door.{doorOut, doorIn};
+use super::chain::Chain;
 use super::session::End;
 use super::session::Session;
 use super::session::State;
@@ -16,7 +17,7 @@ pub struct SessionFields {
     pub rnd_b: [u8; 8],
     pub cuid: [u8; 8],
     pub keys: SessionKeys,
-    pub chain: [u8; 16],
+    pub chain: Chain,
 }
 
 impl Session {

@@ -1,8 +1,10 @@
 // One session of the channel, at either end.
+mod chain;
 mod channel;
 mod door;
 mod session;
 
+pub use chain::Chain;
 pub use door::SessionFields;
 pub use session::BlockAnswer;
 pub use session::End;

@@ -5,6 +5,7 @@ ghost use Rattle.secure_keys.specs.Keys.{firstOf};
 ghost use Rattle.secure_session.specs.Session.{endNumber, stateNumber, isAt, noKeys, fresh, reset, wipedOf, withStep, secured};
 ghost use Rattle.secure_session.specs.declared.session.End.the-variants.{Controller, Reader};
 ghost use Rattle.secure_session.specs.Handshake.{challengeOf, receiveCcryptOf, serverCryptogramOf, initialRmacOf, confirmOf, receiveChallengeOf, receiveScryptOf, serverFor, stepped, steppedBlock, blockAnswer, blockBeside};
+use super::chain::Chain;
 use refusal::Outcome;
 use refusal::Refusal;
 use secure_keys::SessionKeys;
@@ -30,7 +31,7 @@ pub struct Session {
     pub(crate) rnd_b: [u8; 8],
     pub(crate) cuid: [u8; 8],
     pub(crate) keys: SessionKeys,
-    pub(crate) chain: [u8; 16],
+    pub(crate) chain: Chain,
 }
 
 // A call that answers yes or a refusal, and hands the session back.
@@ -92,7 +93,8 @@ pub(crate) fn no_keys() -> SessionKeys
 fn fresh(end: End, scbk: [u8; 16], cuid: [u8; 8]) -> Session
     ensures { λ r. ⌜ r ≡ fresh end scbk cuid ⌝ }
 {
-    let none = no_keys();
+    let keys = no_keys();
+    let chain = Chain::none();
     Session {
         end,
         state: State::Disconnected,
@@ -100,8 +102,8 @@ fn fresh(end: End, scbk: [u8; 16], cuid: [u8; 8]) -> Session
         rnd_a: [0; 8],
         rnd_b: [0; 8],
         cuid,
-        keys: none,
-        chain: [0; 16],
+        keys,
+        chain,
     }
 }
 
@@ -187,7 +189,8 @@ impl Session {
         let cuid = self.cuid;
         let keys = self.keys;
         let mut s = self.moved(State::Secure, rnd_a, rnd_b, cuid, keys);
-        s.chain = first;
+        let chain = Chain::first(first);
+        s.chain = chain;
         s
     }
 

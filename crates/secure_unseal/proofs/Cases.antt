@@ -21,7 +21,8 @@ use Rattle.refusal.specs.declared.Outcome.{Outcome}
 use Rattle.refusal.specs.declared.Refusal.{Refusal}
 use Rattle.secure_cipher.specs.Cbc.{Done, Opening, cipherStop, decryptOf, openedInto, wiped}
 use Rattle.secure_keys.specs.declared.crypto.SessionKeys.{SessionKeys}
-use Rattle.secure_session.specs.Session.{isSecure, recvFrom, received}
+use Rattle.secure_session.specs.Chain.{recvFrom, received}
+use Rattle.secure_session.specs.Session.{isSecure}
 use Rattle.secure_session.specs.Handshake.{stepped}
 use Rattle.secure_session.specs.Channel.{verifyOf, openDataOf}
 use Rattle.secure_session.specs.declared.session.Session.{Session}

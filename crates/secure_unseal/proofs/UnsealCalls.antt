@@ -24,7 +24,8 @@ use Rattle.secure_cipher.specs.Cbc.{Opening, reveal}
 use Rattle.secure_cipher.proofs.CbcLaws.{dec-steps}
 use Rattle.secure_cipher.specs.Mac.{macCalls}
 use Rattle.secure_keys.specs.declared.crypto.SessionKeys.{SessionKeys}
-use Rattle.secure_session.specs.Session.{isSecure, recvFrom}
+use Rattle.secure_session.specs.Chain.{recvFrom}
+use Rattle.secure_session.specs.Session.{isSecure}
 use Rattle.secure_session.specs.declared.session.Session.{Session}
 use Rattle.secure_unseal.specs.Unseal.{Checked, UnsealRun, check, openData, unsealPlain, unsealOpened, unsealHidden, unsealParsed, unsealRun, unsealOf}
 use Rattle.secure_unseal.specs.Calls.{unsealNumber, bodyLen, dataCalls, unsealCallsOf}

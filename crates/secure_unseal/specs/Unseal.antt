@@ -15,7 +15,8 @@ use Rattle.packet_parse.specs.Frame.{Fields, typeIn, macStart, parseOf}
 use Rattle.secure_keys.specs.declared.crypto.SessionKeys.{SessionKeys}
 use Rattle.secure_cipher.specs.Mac.{macOf}
 use Rattle.secure_cipher.specs.Cbc.{Opening, reveal, openedInto, wiped}
-use Rattle.secure_session.specs.Session.{isSecure, recvFrom, received}
+use Rattle.secure_session.specs.Chain.{recvFrom, received}
+use Rattle.secure_session.specs.Session.{isSecure}
 use Rattle.secure_session.specs.declared.session.State.{State}
 use Rattle.secure_session.specs.declared.session.Session.{Session}
 use Rattle.secure_unseal.specs.declared.frame.PlaceAnswer.{PlaceAnswer}

@@ -3,22 +3,23 @@
 use Prim.Native.Nat.{ℕ}
 use mir.Syntax.{w8}
 use Rattle.laws.specs.Blocks.{Block}
-use Rattle.secure_session.proofs.SessionLaws.{send-block}
+use Rattle.secure_session.proofs.SessionLaws.{Kept, send-block}
 use Rattle.secure_seal.proofs.DataWritten.{hidden-written, plain-fits, plain-written}
 use borrow.Author.Needs.{needs, length-unmapped, elem-fits-field}
 use Rattle.secure_seal.proofs.frame.put_data.Statement.{statement}
 use Rattle.secure_seal.proofs.frame.put_data.Tie as tie
 
--- what owning a session tells: its key and its chain value are blocks
+-- what owning a session tells: its key is a block, and what its chain keeps
 key-block : (s : tie.Start) → Block (s .args .session .keys .«s_enc»)
 key-block s =
     let g = s .good .0 .1 .1 .1 .1 .1 .1 .1 .1 .0 .1 .1 .0 .1 in
     record { size = length-unmapped ℕ (s .args .session .keys .«s_enc») 16 (g .0 .1); bytes = λ i. elem-fits-field w8 w8 (s .args .session .keys .«s_enc») _ i (g .1) tt .fits }
 
-chain-block : (s : tie.Start) → Block (s .args .session .chain)
-chain-block s =
-    let g = s .good .0 .1 .1 .1 .1 .1 .1 .1 .1 .1 .0 .1 in
-    record { size = length-unmapped ℕ (s .args .session .chain) 16 (g .0 .1); bytes = λ i. elem-fits-field w8 w8 (s .args .session .chain) _ i (g .1) tt .fits }
+chain-kept : (s : tie.Start) → Kept (s .args .session .chain)
+chain-kept s =
+    let g = s .good .0 .1 .1 .1 .1 .1 .1 .1 .1 .1 .0 .1 .1 .0 .1 in
+    let v = s .args .session .chain .value in
+    record { size = length-unmapped ℕ v 16 (g .0 .1); bytes = λ i. elem-fits-field w8 w8 v _ i (g .1) tt .fits }
 
 copy-requires : tie.Need-copy-requires
 copy-requires c κs =
@@ -30,9 +31,8 @@ returns c =
     let s = c .before .before .before .before .before .before .before in
     let a = s .args in
     let k : Block (a .session .keys .«s_enc») = key-block s in
-    let v : Block (a .session .chain) = chain-block s in
     hidden-written (a .encrypt) (a .session) (a .«data» .now) (a .out .now) _ (c .before .before .seal-data .result)
-    (c .before .before .before .before .if1 .taken) (s .pre .0) k (send-block (a .session) v)
+    (c .before .before .before .before .if1 .taken) (s .pre .0) k (send-block (a .session) (chain-kept s))
     (λ i. c .before .before .before .before .before .before .shared-slice-known .given i .fits) (s .pre .1) (c .before .before .seal-data .ensures)
 
 returns-2 : tie.Need-returns-2

@@ -7,7 +7,7 @@ use lib.ListN.{length, take, drop}
 use lib.Seq.{length-take-le}
 use Rattle.laws.proofs.Lists.{part-length}
 use borrow.Rule.Slice.PartMut.{putMid}
-use Rattle.secure_session.specs.Session.{sendFrom}
+use Rattle.secure_session.specs.Chain.{sendFrom}
 use Rattle.secure_session.proofs.SecureLaws.{mac-there}
 use Rattle.secure_seal.specs.Seal.{dataLenFor, askedOf}
 use Rattle.secure_seal.proofs.FrameWritten.{frame-put, data-steps, mac-few}

@@ -4,7 +4,7 @@ use mathlib.Core.Path.{sym, ap, _∙_}
 use borrow.Author.Tests.{not-true, not-false}
 use Rattle.laws.specs.Answer.{Answer}
 use Rattle.packet_parse.specs.Frame.{Fields, parsed}
-use Rattle.secure_session.specs.Session.{recvFrom}
+use Rattle.secure_session.specs.Chain.{recvFrom}
 use Rattle.secure_unseal.specs.Unseal.{unsealParsed, unsealTold}
 use Rattle.secure_unseal.specs.declared.frame.Unsealed.{Unsealed}
 use Rattle.secure_unseal.proofs.Cases.{stops, parsed-refused, on-secure, on-other}

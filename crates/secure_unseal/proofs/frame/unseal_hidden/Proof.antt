@@ -10,9 +10,9 @@ use Rattle.laws.specs.Bytes.{Bytes, compl}
 use Rattle.packet_parse.specs.Frame.{fields}
 use Rattle.refusal.specs.Reading.{lengthAnswer}
 use Rattle.secure_cipher.specs.Cbc.{cipherTold, decryptOf}
-use Rattle.secure_session.specs.Session.{recvFrom}
+use Rattle.secure_session.specs.Chain.{recvFrom}
 use Rattle.secure_session.proofs.SecureLaws.{secure-open-data}
-use Rattle.secure_session.proofs.SessionLaws.{recv-block}
+use Rattle.secure_session.proofs.SessionLaws.{Kept, recv-block}
 use Rattle.secure_unseal.specs.Unseal.{check}
 use Rattle.secure_unseal.proofs.Cases.{stops, stops-at, moves, check-passed, check-failed, hidden-no, hidden-right, hidden-wrong}
 use Rattle.secure_unseal.proofs.Wiping.{found-steps, found-room, found-wiped, check-steps, check-counted}
@@ -20,7 +20,7 @@ use borrow.Author.Needs.{needs, length-unmapped, elem-fits-field}
 use Rattle.secure_unseal.proofs.frame.unseal_hidden.Statement.{statement}
 use Rattle.secure_unseal.proofs.frame.unseal_hidden.Tie as tie
 
--- what owning a session tells: its key and its chain value are blocks
+-- what owning a session tells: its key is a block, and what its chain keeps
 key-block : (s : tie.Start) → Block (s .args .session .keys .«s_enc»)
 key-block s =
     let g = s .good .0 .1 .1 .1 .1 .1 .1 .1 .1 .0 .1 .1 .0 .1 in
@@ -29,13 +29,11 @@ key-block s =
       bytes = λ i. elem-fits-field w8 w8 (s .args .session .keys .«s_enc») _ i (g .1) tt .fits;
     }
 
-chain-block : (s : tie.Start) → Block (s .args .session .chain)
-chain-block s =
-    let g = s .good .0 .1 .1 .1 .1 .1 .1 .1 .1 .1 .0 .1 in
-    record {
-      size = length-unmapped ℕ (s .args .session .chain) 16 (g .0 .1);
-      bytes = λ i. elem-fits-field w8 w8 (s .args .session .chain) _ i (g .1) tt .fits;
-    }
+chain-kept : (s : tie.Start) → Kept (s .args .session .chain)
+chain-kept s =
+    let g = s .good .0 .1 .1 .1 .1 .1 .1 .1 .1 .1 .0 .1 .1 .0 .1 in
+    let v = s .args .session .chain .value in
+    record { size = length-unmapped ℕ v 16 (g .0 .1); bytes = λ i. elem-fits-field w8 w8 v _ i (g .1) tt .fits }
 
 -- the session's call is the cipher's own
 opened : (d : tie.After-open-data) → let a = d .before .before .before .before .args in
@@ -93,7 +91,7 @@ returns-2 c =
     let x = c .before .before .before .before .before .before .right .given in
     let y = check-failed (a .session) (s .pre .0) (a .frame .now) (a .mac-at) (k .check .result) (k .check .ensures) (x .0 .0) (x .1) in
     let f : Bytes (a .frame .now) = λ i. omega (arith, d .before .before .before .shared-slice-known .given i) in
-    let z = found-wiped (a .session .keys .«s_enc») (recvFrom (a .session)) (a .frame .now) (a .p .«data_start») (a .p .«data_len») (a .work .now) (s .pre .2) (opened d) _ (ap lengthAnswer (g .opened .given .1)) (key-block s) (recv-block (a .session) (chain-block s) .size) f in
+    let z = found-wiped (a .session .keys .«s_enc») (recvFrom (a .session)) (a .frame .now) (a .p .«data_start») (a .p .«data_len») (a .work .now) (s .pre .2) (opened d) _ (ap lengthAnswer (g .opened .given .1)) (key-block s) (recv-block (a .session) (chain-kept s) .size) f in
     stops-at (y .3) (c .stopped .ensures)
     (hidden-wrong (a .session .keys) (recvFrom (a .session)) (a .frame .now) (fields (a .p)) (a .work .now) (s .pre .2) (opened d) _ _ (ap lengthAnswer (g .opened .given .1)) (counted m) _ _ _ (y .1) (y .2) (c .before .before .before .wipe .ensures ∙ z) (y .0))
 

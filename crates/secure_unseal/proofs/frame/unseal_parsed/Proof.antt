@@ -7,7 +7,7 @@ use Prim.Native.Nat.{ℕ}
 use Rattle.packet_head.specs.Block.{hasMac, isEncrypted}
 use Rattle.packet_parse.specs.Frame.{typeIn, fields, blockPlace}
 use Rattle.packet_parse.specs.declared.codec.BlockPart.{BlockPart}
-use Rattle.secure_session.specs.Session.{recvFrom}
+use Rattle.secure_session.specs.Chain.{recvFrom}
 use Rattle.secure_unseal.specs.Unseal.{check, openData, unsealPlain, unsealHidden, unsealedOn}
 use Rattle.secure_unseal.proofs.Cases.{stops, parsed-no, parsed-hidden, parsed-plain}
 use Rattle.secure_unseal.proofs.Inside.{mac-inside, data-inside}

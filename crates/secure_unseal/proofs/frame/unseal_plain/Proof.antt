@@ -3,7 +3,7 @@
 use native.Mathlib.Omega.{arith}
 use mathlib.Core.Path.{_≡_, _∙_}
 use Rattle.packet_parse.specs.Frame.{fields}
-use Rattle.secure_session.specs.Session.{recvFrom}
+use Rattle.secure_session.specs.Chain.{recvFrom}
 use Rattle.secure_unseal.specs.Unseal.{check}
 use Rattle.secure_unseal.proofs.Cases.{stops-at, moves, check-passed, check-failed, plain-right, plain-wrong}
 use Rattle.secure_unseal.proofs.Wiping.{check-counted}

@@ -1,7 +1,7 @@
 -- `secure_session::session::Session::received` meets its contract: the chain is one field.
 -- Assumes nothing.
 use mathlib.Core.Path.{refl}
-use Rattle.secure_session.specs.Session.{received}
+use Rattle.secure_session.specs.Chain.{received}
 use Rattle.secure_session.proofs.session.Session.received.Tie as tie
 use Rattle.secure_session.proofs.session.Session.received.Statement.{statement}
 

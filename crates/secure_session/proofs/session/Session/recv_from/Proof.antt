@@ -1,7 +1,7 @@
 -- `secure_session::session::Session::recv_from` meets its contract: the chain is one field.
 -- Assumes nothing.
 use mathlib.Core.Path.{refl}
-use Rattle.secure_session.specs.Session.{recvFrom}
+use Rattle.secure_session.specs.Chain.{recvFrom}
 use Rattle.secure_session.proofs.session.Session.recv_from.Tie as tie
 use Rattle.secure_session.proofs.session.Session.recv_from.Statement.{statement}
 

@@ -7,7 +7,8 @@ use Rattle.secure_session.proofs.session.Session.secured.Statement.{sta
 
 returns : tie.Need-returns
 returns c =
-    with-chain (c .before .before .before .before .before .args .self) (c .before .before .before .before .before .args .first) (c .moved .ensures)
+    let s = c .before .before .before .before .before .before in
+    with-chain (s .args .self) (s .args .first) (c .before .moved .ensures) (c .first .ensures)
 
 pub secured-spec : {M : Type 1} → statement M
-secured-spec = tie.close (tie.spec (λ c κs. search needs) returns)
+secured-spec = tie.close (tie.spec (λ c κs. search needs) (λ c κs. search needs) returns)

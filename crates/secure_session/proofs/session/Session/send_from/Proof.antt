@@ -1,7 +1,7 @@
 -- `secure_session::session::Session::send_from` meets its contract: the chain is one field.
 -- Assumes nothing.
 use mathlib.Core.Path.{refl}
-use Rattle.secure_session.specs.Session.{sendFrom}
+use Rattle.secure_session.specs.Chain.{sendFrom}
 use Rattle.secure_session.proofs.session.Session.send_from.Tie as tie
 use Rattle.secure_session.proofs.session.Session.send_from.Statement.{statement}
 

@@ -1,7 +1,7 @@
 -- `secure_session::session::Session::sent` meets its contract: the chain is one field.
 -- Assumes nothing.
 use mathlib.Core.Path.{refl}
-use Rattle.secure_session.specs.Session.{sent}
+use Rattle.secure_session.specs.Chain.{sent}
 use Rattle.secure_session.proofs.session.Session.sent.Tie as tie
 use Rattle.secure_session.proofs.session.Session.sent.Statement.{statement}
 

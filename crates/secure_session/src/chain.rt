@@ -1,0 +1,63 @@
+// The chain: what a session keeps of the MACs that went both ways. It is made and moved here and nowhere else.
+ghost use mathlib.Core.Path.{_≡_};
+ghost use Rattle.secure_session.specs.Chain.{noChain, firstChain, sendFrom, recvFrom, sent, received};
+use super::session::Session;
+
+// The last full MAC, of whichever end.
+pub struct Chain {
+    pub value: [u8; 16],
+}
+
+impl Chain {
+    // Before a handshake, and after a wipe.
+    pub(crate) fn none() -> Chain
+        ensures { λ r. ⌜ r ≡ noChain ⌝ }
+    {
+        Chain { value: [0; 16] }
+    }
+
+    // With the value that a handshake ends with.
+    pub(crate) fn first(value: [u8; 16]) -> Chain
+        ensures { λ r. ⌜ r ≡ firstChain value ⌝ }
+    {
+        Chain { value }
+    }
+}
+
+impl Session {
+    // Where a MAC that is made starts.
+    pub(crate) fn send_from(self) -> [u8; 16]
+        ensures { λ r. ⌜ r ≡ sendFrom self ⌝ }
+    {
+        let c = self.chain;
+        c.value
+    }
+
+    // Where a MAC that is checked starts.
+    pub(crate) fn recv_from(self) -> [u8; 16]
+        ensures { λ r. ⌜ r ≡ recvFrom self ⌝ }
+    {
+        let c = self.chain;
+        c.value
+    }
+
+    // After a MAC was made.
+    pub(crate) fn sent(self, full: [u8; 16]) -> Session
+        ensures { λ r. ⌜ r ≡ sent self full ⌝ }
+    {
+        let mut s = self;
+        let chain = Chain { value: full };
+        s.chain = chain;
+        s
+    }
+
+    // After a MAC was found right.
+    pub(crate) fn received(self, full: [u8; 16]) -> Session
+        ensures { λ r. ⌜ r ≡ received self full ⌝ }
+    {
+        let mut s = self;
+        let chain = Chain { value: full };
+        s.chain = chain;
+        s
+    }
+}
