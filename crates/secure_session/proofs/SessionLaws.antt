@@ -11,15 +11,15 @@ use Rattle.secure_session.specs.declared.session.Session.{Session}
 use Rattle.secure_session.specs.declared.session.State.the-variants.{Secure}
 
 -- each value that a chain keeps is a block
-abbrev pub Kept : Chain → Type 0
-Kept c = Block (c .value)
+abbrev pub ChainBlocks : Chain → Type 0
+ChainBlocks c = Block (c .value)
 
 -- what the chain keeps is what a MAC starts from
-pub send-block : (s : Session) → Kept (s .chain) → Block (sendFrom s)
+pub send-block : (s : Session) → ChainBlocks (s .chain) → Block (sendFrom s)
 unfolding sendFrom
 send-block s h = h
 
-pub recv-block : (s : Session) → Kept (s .chain) → Block (recvFrom s)
+pub recv-block : (s : Session) → ChainBlocks (s .chain) → Block (recvFrom s)
 unfolding recvFrom
 recv-block s h = h
 

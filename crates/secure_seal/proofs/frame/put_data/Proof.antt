@@ -3,7 +3,7 @@
 use Prim.Native.Nat.{ℕ}
 use mir.Syntax.{w8}
 use Rattle.laws.specs.Blocks.{Block}
-use Rattle.secure_session.proofs.SessionLaws.{Kept, send-block}
+use Rattle.secure_session.proofs.SessionLaws.{ChainBlocks, send-block}
 use Rattle.secure_seal.proofs.DataWritten.{hidden-written, plain-fits, plain-written}
 use borrow.Author.Needs.{needs, length-unmapped, elem-fits-field}
 use Rattle.secure_seal.proofs.frame.put_data.Statement.{statement}
@@ -15,7 +15,7 @@ key-block s =
     let g = s .good .0 .1 .1 .1 .1 .1 .1 .1 .1 .0 .1 .1 .0 .1 in
     record { size = length-unmapped ℕ (s .args .session .keys .«s_enc») 16 (g .0 .1); bytes = λ i. elem-fits-field w8 w8 (s .args .session .keys .«s_enc») _ i (g .1) tt .fits }
 
-chain-kept : (s : tie.Start) → Kept (s .args .session .chain)
+chain-kept : (s : tie.Start) → ChainBlocks (s .args .session .chain)
 chain-kept s =
     let g = s .good .0 .1 .1 .1 .1 .1 .1 .1 .1 .1 .0 .1 .1 .0 .1 in
     let v = s .args .session .chain .value in

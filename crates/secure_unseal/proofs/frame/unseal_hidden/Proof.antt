@@ -12,7 +12,7 @@ use Rattle.refusal.specs.Reading.{lengthAnswer}
 use Rattle.secure_cipher.specs.Cbc.{cipherTold, decryptOf}
 use Rattle.secure_session.specs.Chain.{recvFrom}
 use Rattle.secure_session.proofs.SecureLaws.{secure-open-data}
-use Rattle.secure_session.proofs.SessionLaws.{Kept, recv-block}
+use Rattle.secure_session.proofs.SessionLaws.{ChainBlocks, recv-block}
 use Rattle.secure_unseal.specs.Unseal.{check}
 use Rattle.secure_unseal.proofs.Cases.{stops, stops-at, moves, check-passed, check-failed, hidden-no, hidden-right, hidden-wrong}
 use Rattle.secure_unseal.proofs.Wiping.{found-steps, found-room, found-wiped, check-steps, check-counted}
@@ -29,7 +29,7 @@ key-block s =
       bytes = λ i. elem-fits-field w8 w8 (s .args .session .keys .«s_enc») _ i (g .1) tt .fits;
     }
 
-chain-kept : (s : tie.Start) → Kept (s .args .session .chain)
+chain-kept : (s : tie.Start) → ChainBlocks (s .args .session .chain)
 chain-kept s =
     let g = s .good .0 .1 .1 .1 .1 .1 .1 .1 .1 .1 .0 .1 .1 .0 .1 in
     let v = s .args .session .chain .value in
