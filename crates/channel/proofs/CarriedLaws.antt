@@ -16,8 +16,8 @@ use Rattle.packet_build.specs.Build.{Parts, totalN, testOf, frameBytes, buildOf
 use Rattle.packet_build.proofs.Sizes.{passes}
 use Rattle.packet_build.proofs.Frames.{build-given}
 use Rattle.packet_view.specs.View.{payloadOf}
-use Rattle.packet.proofs.Built.{builtFields}
-use Rattle.packet.proofs.ReadBack.{built-reads-back}
+use Rattle.packet_theorems.proofs.Built.{builtFields}
+use Rattle.packet_theorems.proofs.ReadBack.{built-reads-back}
 use Rattle.channel.specs.Carried.{Wire, wireParts, onLine, carriage, carried, WireFits}
 
 tail-most : (t : Bool) → trailerLen t ≤ 2

@@ -12,7 +12,7 @@ use Rattle.laws.specs.Blocks.{Block}
 use Rattle.laws.specs.Over.{write}
 use Rattle.laws.proofs.Overwrite.{take-write}
 use Rattle.packet_head.specs.Trailer.{Tail}
-use Rattle.packet.proofs.Built.{tailOf}
+use Rattle.packet_theorems.proofs.Built.{tailOf}
 use Rattle.secure_keys.specs.declared.crypto.SessionKeys.{SessionKeys}
 use Rattle.secure_keys.proofs.KeysLaws.{GoodKeys}
 use Rattle.secure_session.specs.Chain.{sendFrom, recvFrom, sent, received}

@@ -22,8 +22,8 @@ use Rattle.packet_parse.specs.Frame.{Fields, BlockAt.blockAt, MacAt.macFrom, pa
 use Rattle.packet_build.specs.Build.{bodyBytes, frameBytes, tailBytes, buildOf, testOf}
 use Rattle.packet_build.proofs.Sizes.{passes, bytes-length}
 use Rattle.packet_build.proofs.Frames.{build-given}
-use Rattle.packet.proofs.Built.{tailOf}
-use Rattle.packet.proofs.ReadBack.{built-reads-back}
+use Rattle.packet_theorems.proofs.Built.{tailOf}
+use Rattle.packet_theorems.proofs.ReadBack.{built-reads-back}
 use Rattle.secure_keys.specs.declared.crypto.SessionKeys.{SessionKeys}
 use Rattle.secure_keys.proofs.KeysLaws.{GoodKeys}
 use Rattle.secure_cipher.specs.Cbc.{hide}

@@ -12,7 +12,7 @@ use Rattle.packet_parse.proofs.Within.{Inside, accepted-inside}
 use Rattle.packet_build.specs.Build.{FrameBlock, FrameBlock.noScb, FrameBlock.scb}
 use Rattle.packet_view.specs.View.{blockIn, macIn, blockDataOf, payloadOf, frameMacOf}
 use Rattle.packet_view.proofs.ShownLaws.{block-part-inside, payload-inside, mac-part-inside, accepted-block-data, accepted-payload, accepted-mac}
-use Rattle.packet.proofs.Rebuilt.{frameBlockFrom, macBytesFrom, partsFrom}
+use Rattle.packet_theorems.proofs.Rebuilt.{frameBlockFrom, macBytesFrom, partsFrom}
 
 abbrev pub blockDataIn : FrameBlock → List ℕ
 blockDataIn noScb = []

@@ -15,10 +15,10 @@ use Rattle.packet_build.specs.declared.codec.BuildBlock.{BuildBlock}
 use Rattle.packet_build.specs.declared.codec.GivenMac.{GivenMac}
 use Rattle.packet_build.specs.declared.codec.PacketBuilder.{PacketBuilder}
 use Rattle.packet_view.specs.View.{placesOf}
-use Rattle.packet.specs.ViewBuild.{typeAsked, blockDataAsked, ShowsPacket}
-use Rattle.packet.proofs.Built.{Typed, placeOf, builtFields}
-use Rattle.packet.proofs.ReadBack.{built-reads-back}
-use Rattle.packet.proofs.Seen.{blockDataIn, block-data-seen, payload-seen, mac-seen}
+use Rattle.packet_theorems.specs.ViewBuild.{typeAsked, blockDataAsked, ShowsPacket}
+use Rattle.packet_theorems.proofs.Built.{Typed, placeOf, builtFields}
+use Rattle.packet_theorems.proofs.ReadBack.{built-reads-back}
+use Rattle.packet_theorems.proofs.Seen.{blockDataIn, block-data-seen, payload-seen, mac-seen}
 
 asked-typed : (b : BuildBlock) (l : List ℕ) → Typed (scbGiven b l)
 asked-typed BuildBlock.Absent l = tt

@@ -15,8 +15,8 @@ use Rattle.packet_parse.specs.Frame.{parseOf, macAt}
 use Rattle.packet_build.specs.Build as made
 use Rattle.packet_build.specs.Build.{Parts, FrameBlock, FrameBlock.noScb, FrameBlock.scb, blockBytes, headBytes, tailBytes, frameBytes, signedBytes, bodyBytes, buildOf}
 use Rattle.packet_build.proofs.Sizes.{Whole, whole}
-use Rattle.packet.proofs.Built.{placeOf, builtFields, Typed, tail-end, built-reads}
-use Rattle.packet.proofs.Rebuilt.{frameBlockFrom, macBytesFrom, partsFrom}
+use Rattle.packet_theorems.proofs.Built.{placeOf, builtFields, Typed, tail-end, built-reads}
+use Rattle.packet_theorems.proofs.Rebuilt.{frameBlockFrom, macBytesFrom, partsFrom}
 
 mac-taken : (t : Bool) (q m r : List ℕ) (i : ℕ) → length q ≡ i → length m ≡ cond t 4 0 → macBytesFrom (macAt t i) (q ++ (m ++ r)) ≡ m
 mac-taken true q m r i e f = middle q m r i 4 e f

@@ -29,9 +29,9 @@ use Rattle.packet_view.specs.View.{Shown, placesOf, viewed, kindOf, blockIn, ma
 use Rattle.packet_view.specs.declared.parts.BlockKind.{BlockKind}
 use Rattle.packet_view.specs.declared.view.PacketView.{PacketView}
 use Rattle.packet_view.proofs.ShownLaws.{accepted-block-data, mac-length}
-use Rattle.packet.specs.ViewBuild.{shownOf, typeAsked, blockDataAsked, ShowsPacket, blockShown, packetShown, macShown}
-use Rattle.packet.proofs.Rebuilt.{frameBlockFrom, partsFrom, accepted-rebuilds}
-use Rattle.packet.proofs.Seen.{blockDataIn, block-data-seen, payload-seen, mac-seen}
+use Rattle.packet_theorems.specs.ViewBuild.{shownOf, typeAsked, blockDataAsked, ShowsPacket, blockShown, packetShown, macShown}
+use Rattle.packet_theorems.proofs.Rebuilt.{frameBlockFrom, partsFrom, accepted-rebuilds}
+use Rattle.packet_theorems.proofs.Seen.{blockDataIn, block-data-seen, payload-seen, mac-seen}
 
 -- a view that tells no refusal is of a frame that was accepted
 read-as : (x : Answer Fields) → placesOf x .outcome ≡ given tt → (F : Fields) × (x ≡ given F)
