@@ -105,7 +105,7 @@ transfer-settled r s o p w x e = (
 -- ---- a message of the handshake
 
 -- what the frame of a message is made of is what `build` is given, with no MAC
-pub wire-given : (ty : ScsType) (a : Address) (n : Sqn) (c : Bool) (l : List ℕ) (k : ℕ) (o x : List ℕ) (ctrl : ControlByte) → control ctrl ≡ (n .0, c, true)
+pub wire-given : (ty : ScsType) (a : Address) (n : Sqn) (c : Bool) (l : List ℕ) (k : ℕ) (o x : List ℕ) (ctrl : ControlByte) → control ctrl ≡ record { sqn = n .0; crc = c; block = true }
     → partsGiven (record { addr = a; ctrl = ctrl; block = BuildBlock.Of ty; code = k }) l x GivenMac.Absent ≡ wireParts (typeOf ty) (wireOf a n c l k o) x
 wire-given ty a n c l k o x ctrl e = ap (λ (t : Control). record { addr = a .0; ctrl = t; block = scb (typeOf ty) l; code = k; «data» = x; mac = [] }) e
 

@@ -31,9 +31,9 @@ module _ (ty : ℕ) (w : Wire) (x : List ℕ) (known : scsOf ty ≡ given ty) (b
   abbrev total : ℕ
   total = totalN (w .useCrc) true 0 (length (w .block)) (length x)
 
-  passed : testOf (w .sqn, w .useCrc, true) true (hasMac ty) 0 (length (w .block)) (length x) (length (w .out)) ≡ given total
+  passed : testOf (parts .ctrl) true (hasMac ty) 0 (length (w .block)) (length x) (length (w .out)) ≡ given total
   passed =
-      passes (w .sqn, w .useCrc, true) true (hasMac ty) 0 (length (w .block)) (length x) (length (w .out)) total (record {
+      passes (parts .ctrl) true (hasMac ty) 0 (length (w .block)) (length x) (length (w .out)) total (record {
         sqn = h .sqn;
         flag = refl;
         macs = ap macLen (sym bare);

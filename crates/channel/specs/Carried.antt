@@ -27,7 +27,7 @@ pub record Wire : Type 0 where
 
 -- a message x in a frame of type ty, which has no MAC
 abbrev pub wireParts : ℕ → Wire → List ℕ → Parts
-wireParts ty w x = record { addr = w .addr; ctrl = (w .sqn, w .useCrc, true); block = scb ty (w .block); code = w .code; «data» = x; mac = [] }
+wireParts ty w x = record { addr = w .addr; ctrl = record { sqn = w .sqn; crc = w .useCrc; block = true }; block = scb ty (w .block); code = w .code; «data» = x; mac = [] }
 
 -- what is sent: as many bytes of the buffer as the call answered, and nothing after a refusal
 unfoldable pub onLine : Answer ℕ → List ℕ → List ℕ

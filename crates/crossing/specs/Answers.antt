@@ -34,5 +34,5 @@ abbrev pub cOutcome : Outcome → CAnswer
 cOutcome o = cYes (outcomeAnswer {A = Unit {0}} o tt)
 
 abbrev pub cControl : Answer Control → CControl
-cControl (given c) = record { answer = cGiven 0; sqn = c .0; crc = c .1; block = c .2 }
+cControl (given c) = record { answer = cGiven 0; sqn = c .sqn; crc = c .crc; block = c .block }
 cControl (refused n vs) = record { answer = cRefused n vs; sqn = 0; crc = false; block = false }

@@ -26,7 +26,7 @@ unfoldable pub partsArg : CPacket → List ℕ → List ℕ → List ℕ → Ans
 partsArg p l d m =
     andThen (sqnOf (p .sqn)) (λ n.
     andThen (blockArg (p .«block_type») l) (λ b.
-    given (record { addr = p .addr; ctrl = (n, p .crc, p .block); block = b; code = p .code; «data» = d; mac = m })))
+    given (record { addr = p .addr; ctrl = record { sqn = n; crc = p .crc; block = p .block }; block = b; code = p .code; «data» = d; mac = m })))
 
 -- ---- the code's kinds, given the bytes that come beside them
 

@@ -17,7 +17,7 @@ cBlock (given b) = record { answer = cGiven 0; ty = b .0; «data_len» = b .1 }
 cBlock (refused n vs) = record { answer = cRefused n vs; ty = 0; «data_len» = 0 }
 
 abbrev pub cHead : Answer Head → CHead
-cHead (given h) = record { answer = cGiven 0; addr = h .addr; len = h .len; sqn = h .ctrl .0; crc = h .ctrl .1; block = h .ctrl .2 }
+cHead (given h) = record { answer = cGiven 0; addr = h .addr; len = h .len; sqn = h .ctrl .sqn; crc = h .ctrl .crc; block = h .ctrl .block }
 cHead (refused n vs) = record { answer = cRefused n vs; addr = 0; len = 0; sqn = 0; crc = false; block = false }
 
 abbrev pub tailValue : Tail → ℕ
@@ -50,9 +50,9 @@ cParsed (given p) =
     record {
       answer = cGiven 0;
       addr = p .addr;
-      sqn = p .ctrl .0;
-      crc = p .ctrl .1;
-      block = p .ctrl .2;
+      sqn = p .ctrl .sqn;
+      crc = p .ctrl .crc;
+      block = p .ctrl .block;
       «block_type» = typeIn (p .block);
       «block_start» = blockStart (p .block);
       «block_len» = blockLen (p .block);

@@ -58,7 +58,7 @@ pub extern "C" fn malstrink_control_decode(byte: u8) -> CControl
 
 #[no_mangle]
 pub extern "C" fn malstrink_control_encode(sqn: u8, crc: bool, block: bool) -> CAnswer
-    ensures { λ r. ⌜ r ≡ cAnswer (andThen (sqnOf sqn) (λ n. encodeOf (n, crc, block))) ⌝ }
+    ensures { λ r. ⌜ r ≡ cAnswer (andThen (sqnOf sqn) (λ n. encodeOf (record { sqn = n; crc = crc; block = block }))) ⌝ }
 {
     match Sqn::new(sqn) {
         SqnAnswer::Good(s) => encoded_c(ControlByte::new(s, crc, block).encode()),

@@ -38,7 +38,7 @@ body-refused p have n vs e = then-refused _ n vs _ e
 -- ---- body, MAC and trailer, written into o one after the other
 
 module _ (p : Parts) (o : List ℕ) (total : ℕ) (f : FineParts p (length (p .mac)) (length o) total) where
-  pub mac-fits : (n : ℕ) → n ≡ 6 + length (blockBytes (p .block)) + length (p .«data») → n + length (p .mac) + trailerLen (p .ctrl .1) ≤ length o
+  pub mac-fits : (n : ℕ) → n ≡ 6 + length (blockBytes (p .block)) + length (p .«data») → n + length (p .mac) + trailerLen (p .ctrl .crc) ≤ length o
   mac-fits n e = omega (arith, f .total, f .room, bytesN-is (p .block))
 
   pub signed-written : (o₁ o₂ : List ℕ) (n : ℕ) → n ≡ 6 + length (blockBytes (p .block)) + length (p .«data»)
@@ -51,14 +51,14 @@ module _ (p : Parts) (o : List ℕ) (total : ℕ) (f : FineParts p (length (p .m
       w₂ ∙ ap (λ (x : List ℕ). write x n (p .mac)) w₁ ∙ write-write o 0 body n (p .mac) (omega arith) (omega arith)
 
   pub frame-written : (o₂ o₃ : List ℕ) (n m : ℕ) → n ≡ 6 + length (blockBytes (p .block)) + length (p .«data») → m ≡ n + length (p .mac)
-      → o₂ ≡ write o 0 (signedBytes p total) → o₃ ≡ write o₂ m (tailBytes (p .ctrl .1) (take m o₂))
+      → o₂ ≡ write o 0 (signedBytes p total) → o₃ ≡ write o₂ m (tailBytes (p .ctrl .crc) (take m o₂))
       → o₃ ≡ write o 0 (frameBytes p total)
   unfolding frameBytes
   frame-written o₂ o₃ n m e₁ e₂ w₂ w₃ =
       let signed = signedBytes p total in
       let l = signed-length p total in
       let r = mac-fits n e₁ in
-      let t = tail-length (p .ctrl .1) signed in
+      let t = tail-length (p .ctrl .crc) signed in
       let seen : take m o₂ ≡ signed = ap (take m) w₂ ∙ take-write o m signed (omega arith) in
-      w₃ ∙ ap₂ (λ (x y : List ℕ). write x m (tailBytes (p .ctrl .1) y)) w₂ seen
-      ∙ write-write o 0 signed m (tailBytes (p .ctrl .1) signed) (omega arith) (omega arith)
+      w₃ ∙ ap₂ (λ (x y : List ℕ). write x m (tailBytes (p .ctrl .crc) y)) w₂ seen
+      ∙ write-write o 0 signed m (tailBytes (p .ctrl .crc) signed) (omega arith) (omega arith)

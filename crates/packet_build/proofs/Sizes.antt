@@ -32,11 +32,11 @@ signed-length p n =
     let body = bodyBytes (p .addr) (p .ctrl) (p .block) (p .code) (p .«data») n in
     omega (arith, length-append body (p .mac), body-length (p .addr) (p .ctrl) (p .block) (p .code) (p .«data») n)
 
-pub bytes-length : (p : Parts) (n : ℕ) → length (frameBytes p n) ≡ 6 + length (blockBytes (p .block)) + length (p .«data») + length (p .mac) + trailerLen (p .ctrl .1)
+pub bytes-length : (p : Parts) (n : ℕ) → length (frameBytes p n) ≡ 6 + length (blockBytes (p .block)) + length (p .«data») + length (p .mac) + trailerLen (p .ctrl .crc)
 unfolding frameBytes
 bytes-length p n =
-    length-append (signedBytes p n) (tailBytes (p .ctrl .1) (signedBytes p n))
-    ∙ omega (arith, signed-length p n, tail-length (p .ctrl .1) (signedBytes p n))
+    length-append (signedBytes p n) (tailBytes (p .ctrl .crc) (signedBytes p n))
+    ∙ omega (arith, signed-length p n, tail-length (p .ctrl .crc) (signedBytes p n))
 
 -- ---- what holds once every test has passed
 
@@ -47,10 +47,10 @@ differ-false false true e = sym e
 differ-false false false e = refl
 
 pub record Fine (c : Control) (there d : Bool) (mac block dat have n : ℕ) : Type 0 where
-  pub sqn : c .0 ≤ 3
-  pub flag : there ≡ c .2
+  pub sqn : c .sqn ≤ 3
+  pub flag : there ≡ c .block
   pub macs : mac ≡ macLen d
-  pub total : n ≡ totalN (c .1) there mac block dat
+  pub total : n ≡ totalN (c .crc) there mac block dat
   pub most : n ≤ 65535
   pub room : n ≤ have
   pub small : block ≤ 253
@@ -62,7 +62,7 @@ fine c there d mac block dat have =
     holds-refuse _ _ _ _ _ (λ s. holds-refuse _ _ _ _ _ (λ m. holds-refuse _ _ _ _ _ (λ r.
     record {
       sqn = ltb-false _ _ q;
-      flag = differ-false there (c .2) t;
+      flag = differ-false there (c .block) t;
       macs = eqb-true _ _ (not-false _ e);
       total = refl;
       most = ltb-false _ _ m;
@@ -78,8 +78,8 @@ same-off false b e = rw (← e)
 pub passes : (c : Control) (there d : Bool) (mac block dat have n : ℕ) → Fine c there d mac block dat have n → testOf c there d mac block dat have ≡ given n
 unfolding testOf refuseIf
 passes c there d mac block dat have n f =
-    let h₅ : totalN (c .1) there mac block dat ≤ 65535 = omega (arith, f .total, f .most) in
-    let h₆ : totalN (c .1) there mac block dat ≤ have = omega (arith, f .total, f .room) in
+    let h₅ : totalN (c .crc) there mac block dat ≤ 65535 = omega (arith, f .total, f .most) in
+    let h₆ : totalN (c .crc) there mac block dat ≤ have = omega (arith, f .total, f .room) in
     rw (le-ltb _ _ (f .sqn), same-off _ _ (f .flag), eq-eqb _ _ (f .macs), le-ltb _ _ (f .small), le-ltb _ _ h₅, le-ltb _ _ h₆) (ap given (sym (f .total)))
 
 -- the same of parts that are to have `mac` bytes of MAC

@@ -18,16 +18,16 @@ use Rattle.packet_build.specs.Tested.{withCtrl}
 
 -- ---- the control byte, encoded first
 
-pub encode-fine : (c : Control) → c .0 ≤ 3 → encodeOf c ≡ given (ctrlByte c)
+pub encode-fine : (c : Control) → c .sqn ≤ 3 → encodeOf c ≡ given (ctrlByte c)
 unfolding encodeOf refuseIf
 encode-fine c h = rw (le-ltb _ _ h)
 
-pub encode-over : (c : Control) → 3 < c .0 → encodeOf c ≡ refused 10 (c .0 ∷ [])
+pub encode-over : (c : Control) → 3 < c .sqn → encodeOf c ≡ refused 10 (c .sqn ∷ [])
 unfolding encodeOf refuseIf
 encode-over c h = rw (lt-ltb _ _ h)
 
-pub encoded-sqn : (c : Control) (b : ℕ) → given b ≡ encodeOf c → c .0 ≤ 3
-encoded-sqn c b e = elim (decLt 3 (c .0)) [
+pub encoded-sqn : (c : Control) (b : ℕ) → given b ≡ encodeOf c → c .sqn ≤ 3
+encoded-sqn c b e = elim (decLt 3 (c .sqn)) [
   | yes h ↦ absurd (given-refused (e ∙ encode-over c h))
   | no n ↦ omega arith
 ]
@@ -39,7 +39,7 @@ encoded-byte c b e = let k = encode-fine c (encoded-sqn c b e) in cc
 pub encode-refused : (c : Control) (there due : Bool) (mac block dat have : ℕ) (e : Refusal) → _≡_ {A = Answer ℕ} (refusalOf e) (encodeOf c)
     → refusalOf e ≡ withCtrl c (testOf c there due mac block dat have)
 unfolding testOf refuseIf withCtrl andThen
-encode-refused c there due mac block dat have e h = elim (decLt 3 (c .0)) [
+encode-refused c there due mac block dat have e h = elim (decLt 3 (c .sqn)) [
   | yes l ↦ let k = h ∙ encode-over c l in rw (lt-ltb _ _ l) (cc)
   | no n ↦ absurd (given-refused (sym (h ∙ encode-fine c (omega arith))))
 ]
@@ -47,32 +47,32 @@ encode-refused c there due mac block dat have e h = elim (decLt 3 (c .0)) [
 -- ---- the others, in their order, once the control byte is b
 
 module _ (c : Control) (there due : Bool) (mac block dat have b : ℕ) (e : given b ≡ encodeOf c) where
-  pub refused-3 : differ there (c .2) ≡ true → refused 3 (b ∷ []) ≡ withCtrl c (testOf c there due mac block dat have)
+  pub refused-3 : differ there (c .block) ≡ true → refused 3 (b ∷ []) ≡ withCtrl c (testOf c there due mac block dat have)
   unfolding testOf refuseIf withCtrl andThen
   refused-3 d = rw (le-ltb _ _ (encoded-sqn c b e), d, encoded-byte c b e)
 
-  pub refused-11 : differ there (c .2) ≡ false → (mac ≡ macLen due → ⊥) → refused 11 [] ≡ withCtrl c (testOf c there due mac block dat have)
+  pub refused-11 : differ there (c .block) ≡ false → (mac ≡ macLen due → ⊥) → refused 11 [] ≡ withCtrl c (testOf c there due mac block dat have)
   unfolding testOf refuseIf withCtrl andThen
   refused-11 d m = rw (le-ltb _ _ (encoded-sqn c b e), d, ne-eqb _ _ m)
 
-  pub refused-17 : differ there (c .2) ≡ false → mac ≡ macLen due → 253 < block → refused 17 (block ∷ []) ≡ withCtrl c (testOf c there due mac block dat have)
+  pub refused-17 : differ there (c .block) ≡ false → mac ≡ macLen due → 253 < block → refused 17 (block ∷ []) ≡ withCtrl c (testOf c there due mac block dat have)
   unfolding testOf refuseIf withCtrl andThen
   refused-17 d m h = rw (le-ltb _ _ (encoded-sqn c b e), d, eq-eqb _ _ m, lt-ltb _ _ h)
 
-  pub refused-12 : differ there (c .2) ≡ false → mac ≡ macLen due → block ≤ 253 → 65535 < totalN (c .1) there mac block dat
-      → refused 12 (totalN (c .1) there mac block dat ∷ 65535 ∷ []) ≡ withCtrl c (testOf c there due mac block dat have)
+  pub refused-12 : differ there (c .block) ≡ false → mac ≡ macLen due → block ≤ 253 → 65535 < totalN (c .crc) there mac block dat
+      → refused 12 (totalN (c .crc) there mac block dat ∷ 65535 ∷ []) ≡ withCtrl c (testOf c there due mac block dat have)
   unfolding testOf refuseIf withCtrl andThen
   refused-12 d m s h = rw (le-ltb _ _ (encoded-sqn c b e), d, eq-eqb _ _ m, le-ltb _ _ s, lt-ltb _ _ h)
 
-  pub refused-18 : differ there (c .2) ≡ false → mac ≡ macLen due → block ≤ 253 → totalN (c .1) there mac block dat ≤ 65535
-      → have < totalN (c .1) there mac block dat
-      → refused 18 (totalN (c .1) there mac block dat ∷ have ∷ []) ≡ withCtrl c (testOf c there due mac block dat have)
+  pub refused-18 : differ there (c .block) ≡ false → mac ≡ macLen due → block ≤ 253 → totalN (c .crc) there mac block dat ≤ 65535
+      → have < totalN (c .crc) there mac block dat
+      → refused 18 (totalN (c .crc) there mac block dat ∷ have ∷ []) ≡ withCtrl c (testOf c there due mac block dat have)
   unfolding testOf refuseIf withCtrl andThen
   refused-18 d m s h r = rw (le-ltb _ _ (encoded-sqn c b e), d, eq-eqb _ _ m, le-ltb _ _ s, le-ltb _ _ h, lt-ltb _ _ r)
 
-  pub all-passed : differ there (c .2) ≡ false → mac ≡ macLen due → block ≤ 253 → totalN (c .1) there mac block dat ≤ 65535
-      → totalN (c .1) there mac block dat ≤ have
-      → given (totalN (c .1) there mac block dat, b) ≡ withCtrl c (testOf c there due mac block dat have)
+  pub all-passed : differ there (c .block) ≡ false → mac ≡ macLen due → block ≤ 253 → totalN (c .crc) there mac block dat ≤ 65535
+      → totalN (c .crc) there mac block dat ≤ have
+      → given (totalN (c .crc) there mac block dat, b) ≡ withCtrl c (testOf c there due mac block dat have)
   unfolding testOf refuseIf withCtrl andThen
   all-passed d m s h r = rw (le-ltb _ _ (encoded-sqn c b e), d, eq-eqb _ _ m, le-ltb _ _ s, le-ltb _ _ h, le-ltb _ _ r, encoded-byte c b e)
 

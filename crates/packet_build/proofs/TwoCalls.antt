@@ -13,7 +13,7 @@ withMac p m = record { addr = p .addr; ctrl = p .ctrl; block = p .block; code = 
 
 -- a first call's answer, completed by the MAC and the trailer
 abbrev pub completed : Parts → List ℕ → Answer (List ℕ) → Answer (List ℕ)
-completed p m (given b) = given (b ++ m ++ tailBytes (p .ctrl .1) (b ++ m))
+completed p m (given b) = given (b ++ m ++ tailBytes (p .ctrl .crc) (b ++ m))
 completed p m (refused n vs) = refused n vs
 
 then-completed : (p : Parts) (m : List ℕ) (a : Answer ℕ)

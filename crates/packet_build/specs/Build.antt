@@ -57,13 +57,13 @@ differ false b = b
 -- SQN above 3; block present and CTRL disagree; a MAC exactly where one is due; the block's data; LEN; the room. `mac` is how many bytes of MAC are given
 unfoldable pub testOf : Control → Bool → Bool → ℕ → ℕ → ℕ → ℕ → Answer ℕ
 testOf c there due mac block dat have =
-    refuseIf (ltb 3 (c .0)) 10 (c .0 ∷ [])
-    (refuseIf (differ there (c .2)) 3 (ctrlByte c ∷ [])
+    refuseIf (ltb 3 (c .sqn)) 10 (c .sqn ∷ [])
+    (refuseIf (differ there (c .block)) 3 (ctrlByte c ∷ [])
     (refuseIf (not (eqb mac (macLen due))) 11 []
     (refuseIf (ltb 253 block) 17 (block ∷ [])
-    (refuseIf (ltb 65535 (totalN (c .1) there mac block dat)) 12 (totalN (c .1) there mac block dat ∷ 65535 ∷ [])
-    (refuseIf (ltb have (totalN (c .1) there mac block dat)) 18 (totalN (c .1) there mac block dat ∷ have ∷ [])
-    (given (totalN (c .1) there mac block dat)))))))
+    (refuseIf (ltb 65535 (totalN (c .crc) there mac block dat)) 12 (totalN (c .crc) there mac block dat ∷ 65535 ∷ [])
+    (refuseIf (ltb have (totalN (c .crc) there mac block dat)) 18 (totalN (c .crc) there mac block dat ∷ have ∷ [])
+    (given (totalN (c .crc) there mac block dat)))))))
 
 -- the tests of a block, `mac` bytes of MAC and `dat` bytes of data
 abbrev pub partsTest : Control → FrameBlock → ℕ → ℕ → ℕ → Answer ℕ
@@ -94,7 +94,7 @@ signedBytes p total = bodyBytes (p .addr) (p .ctrl) (p .block) (p .code) (p .«d
 
 -- the whole frame of total bytes
 unfoldable pub frameBytes : Parts → ℕ → List ℕ
-frameBytes p total = signedBytes p total ++ tailBytes (p .ctrl .1) (signedBytes p total)
+frameBytes p total = signedBytes p total ++ tailBytes (p .ctrl .crc) (signedBytes p total)
 
 -- ---- the two calls, into a buffer of `have` bytes
 

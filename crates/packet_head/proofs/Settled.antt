@@ -25,7 +25,7 @@ use Rattle.packet_head.specs.declared.trailer.Trailer.{Trailer}
 -- ---- each kind back from the paper's words
 
 abbrev pub controlFrom : Control → ControlByte
-controlFrom c = record { sqn = record { 0 = c .0 }; crc = c .1; block = c .2 }
+controlFrom c = record { sqn = record { 0 = c .sqn }; crc = c .crc; block = c .block }
 
 abbrev pub typeFrom : ℕ → ScsType
 typeFrom n = cond (eqb n 0x11) Scs11 (cond (eqb n 0x12) Scs12 (cond (eqb n 0x13) Scs13 (cond (eqb n 0x14) Scs14 (cond (eqb n 0x15) Scs15 (cond (eqb n 0x16) Scs16 (cond (eqb n 0x17) Scs17 Scs18))))))

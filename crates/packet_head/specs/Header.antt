@@ -31,19 +31,21 @@ nextOf n = refuseIf (ltb 3 n) 10 (n ∷ []) (given (n % 3 + 1))
 
 -- ---- the control byte: SQN, whether a CRC, whether a block
 
-abbrev pub Control : Type 0
-Control = ℕ × Bool × Bool
+pub record Control : Type 0 where
+  pub sqn : ℕ
+  pub crc : Bool
+  pub block : Bool
 
 -- the top four bits are 0, or refusal 3; bits 0 and 1 SQN, 04 CRC, 08 block
 unfoldable pub controlOf : ℕ → Answer Control
-controlOf b = refuseIf (leb 16 b) 3 (b ∷ []) (given (b % 4, eqb (b / 4 % 2) 1, eqb (b / 8) 1))
+controlOf b = refuseIf (leb 16 b) 3 (b ∷ []) (given (record { sqn = b % 4; crc = eqb (b / 4 % 2) 1; block = eqb (b / 8) 1 }))
 
 abbrev pub ctrlByte : Control → ℕ
-ctrlByte c = c .0 + cond (c .1) 4 0 + cond (c .2) 8 0
+ctrlByte c = c .sqn + cond (c .crc) 4 0 + cond (c .block) 8 0
 
 -- an SQN above 3 is refused by 10, never reduced
 unfoldable pub encodeOf : Control → Answer ℕ
-encodeOf c = refuseIf (ltb 3 (c .0)) 10 (c .0 ∷ []) (given (ctrlByte c))
+encodeOf c = refuseIf (ltb 3 (c .sqn)) 10 (c .sqn ∷ []) (given (ctrlByte c))
 
 -- ---- the code's answers, as the paper has them
 
@@ -56,7 +58,7 @@ sqnAnswer (SqnAnswer.Good n) = given (n .0)
 sqnAnswer (SqnAnswer.Refused e) = refusalOf e
 
 abbrev pub control : ControlByte → Control
-control c = (c .sqn .0, c .crc, c .block)
+control c = record { sqn = c .sqn .0; crc = c .crc; block = c .block }
 
 abbrev pub controlAnswer : ControlAnswer → Answer Control
 controlAnswer (ControlAnswer.Good c) = given (control c)

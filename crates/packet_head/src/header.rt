@@ -147,7 +147,7 @@ impl ControlByte {
     pub const HAS_SCB: u8 = 0x08;
 
     pub fn new(sqn: Sqn, crc: bool, block: bool) -> Self
-        ensures { λ r. ⌜ control r ≡ (sqn .0, crc, block) ⌝ }
+        ensures { λ r. ⌜ control r ≡ record { sqn = sqn .0; crc = crc; block = block } ⌝ }
     {
         Self { sqn, crc, block }
     }

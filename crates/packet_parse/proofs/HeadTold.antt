@@ -24,31 +24,35 @@ standing (blockAt ty start len) = true
 abbrev pub has08 : List ℕ → Bool
 has08 s = eqb (getD s 4 0 / 8 % 2) 1
 
+-- what a byte says as CTRL
+abbrev pub ctrlSaid : ℕ → Control
+ctrlSaid b = record { sqn = b % 4; crc = eqb (b / 4 % 2) 1; block = eqb (b / 8 % 2) 1 }
+
 -- what the first five bytes of s say of the frame F
 pub record Told (s : List ℕ) (F : Fields) : Type 0 where
   pub som : getD s 0 0 ≡ 0x53
   pub addr : F .addr ≡ getD s 1 0
   pub len : F .len ≡ lenOf s
   pub low : getD s 4 0 < 0x10
-  pub ctrl : F .ctrl ≡ (getD s 4 0 % 4, eqb (getD s 4 0 / 4 % 2) 1, has08 s)
+  pub ctrl : F .ctrl ≡ ctrlSaid (getD s 4 0)
   pub block : standing (F .block) ≡ has08 s
 
 -- ---- the head
 
-control-told : (b : ℕ) → Holds (λ c. (b < 0x10) × (c ≡ (b % 4, eqb (b / 4 % 2) 1, eqb (b / 8 % 2) 1))) (controlOf b)
+control-told : (b : ℕ) → Holds (λ c. (b < 0x10) × (c ≡ ctrlSaid b)) (controlOf b)
 unfolding controlOf
 control-told b =
     holds-refuse _ _ _ _ _ (λ h.
     let k : b < 0x10 = leb-false 16 b h in
     let e : b / 8 ≡ b / 8 % 2 = omega arith in
-    (k, λ i. (b % 4, eqb (b / 4 % 2) 1, eqb (e i) 1)))
+    (k, λ i. record { sqn = b % 4; crc = eqb (b / 4 % 2) 1; block = eqb (e i) 1 }))
 
 pub record HeadRead (s : List ℕ) (h : Head) : Type 0 where
   pub som : getD s 0 0 ≡ 0x53
   pub addr : h .addr ≡ getD s 1 0
   pub len : h .len ≡ lenOf s
   pub low : getD s 4 0 < 0x10
-  pub ctrl : h .ctrl ≡ (getD s 4 0 % 4, eqb (getD s 4 0 / 4 % 2) 1, has08 s)
+  pub ctrl : h .ctrl ≡ ctrlSaid (getD s 4 0)
 
 pub head-read : (s : List ℕ) → Holds (HeadRead s) (headOf s)
 unfolding headOf
@@ -64,9 +68,9 @@ pub record Kept (f : List ℕ) (a : ℕ) (c : Control) (F : Fields) : Type 0 whe
   pub addr : F .addr ≡ a
   pub len : F .len ≡ length f
   pub ctrl : F .ctrl ≡ c
-  pub block : standing (F .block) ≡ c .2
+  pub block : standing (F .block) ≡ c .block
 
-parts-kept : (f : List ℕ) (a : ℕ) (c : Control) (b : BlockAt) (at : ℕ) (mac : Bool) → standing b ≡ c .2 → Holds (Kept f a c) (partsOf f a c b at mac)
+parts-kept : (f : List ℕ) (a : ℕ) (c : Control) (b : BlockAt) (at : ℕ) (mac : Bool) → standing b ≡ c .block → Holds (Kept f a c) (partsOf f a c b at mac)
 unfolding partsOf
 parts-kept f a c b at mac h = holds-refuse _ _ _ _ _ (λ _. holds-refuse _ _ _ _ _ (λ _. holds-then _ _ _ (λ t _. record { addr = refl; len = refl; ctrl = refl; block = h })))
 
@@ -90,7 +94,7 @@ told s =
       len = k .len ∙ n ∙ g .len;
       low = g .low;
       ctrl = k .ctrl ∙ g .ctrl;
-      block = k .block ∙ ap (λ (c : Control). c .2) (g .ctrl);
+      block = k .block ∙ ap (λ (c : Control). c .block) (g .ctrl);
     })
     (frame-kept (take (h .len) s) (h .addr) (h .ctrl))))
 

@@ -47,15 +47,15 @@ unfolding partsOf
 parts-inside f a c b at mac h5 hb =
     holds-refuse _ _ _ _ _ (λ _. holds-refuse _ _ _ _ _ (λ k. holds-then _ _ _ (λ t _. in-it t (ltb-false _ _ k))))
   where
-    in-it : (t : Tail) → at + 1 + macLen mac + trailerLen (c .1) ≤ length f → Inside (length f) (fieldsOf f a c b at mac t)
+    in-it : (t : Tail) → at + 1 + macLen mac + trailerLen (c .crc) ≤ length f → Inside (length f) (fieldsOf f a c b at mac t)
     in-it t k =
-        let one = one-more (c .1) in
+        let one = one-more (c .crc) in
         record {
           least = omega arith;
           most = omega arith;
           block = hb;
           «data» = omega arith;
-          mac = mac-within mac (length f) at (trailerLen (c .1)) one k;
+          mac = mac-within mac (length f) at (trailerLen (c .crc)) one k;
         }
 
 frame-inside : (f : List ℕ) (a : ℕ) (c : Control) → Holds (Inside (length f)) (frameOf f a c)

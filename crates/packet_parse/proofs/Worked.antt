@@ -47,9 +47,9 @@ frames =
 
 pub answers : List (Answer Fields)
 answers =
-    plainFrame (0, true, false) noBlock 6 (crc 0x89BC) 8
+    plainFrame (record { sqn = 0; crc = true; block = false }) noBlock 6 (crc 0x89BC) 8
     ∷ refused 1 (7 ∷ 8 ∷ [])
-    ∷ plainFrame (0, false, false) noBlock 6 (checksum 0x41) 7
+    ∷ plainFrame (record { sqn = 0; crc = false; block = false }) noBlock 6 (checksum 0x41) 7
     ∷ refused 8 (0x40 ∷ 0x41 ∷ [])
     ∷ refused 1 (0 ∷ 5 ∷ [])
     ∷ refused 4 (0 ∷ 0 ∷ [])
@@ -59,7 +59,7 @@ answers =
     ∷ refused 6 (0x19 ∷ [])
     ∷ refused 4 (9 ∷ 9 ∷ [])
     ∷ refused 4 (9 ∷ 9 ∷ [])
-    ∷ plainFrame (0, false, true) (blockAt 0x11 7 0) 8 (checksum 0x24) 9
+    ∷ plainFrame (record { sqn = 0; crc = false; block = true }) (blockAt 0x11 7 0) 8 (checksum 0x24) 9
     ∷ []
 
 pub worked : map parseOf frames ≡ answers

@@ -86,8 +86,8 @@ fieldsOf f addr ctrl block at mac t =
       block = block;
       code = getD f at 0;
       dataStart = at + 1;
-      dataLen = length f - (at + 1 + macLen mac + trailerLen (ctrl .1));
-      mac = macAt mac (length f - (macLen mac + trailerLen (ctrl .1)));
+      dataLen = length f - (at + 1 + macLen mac + trailerLen (ctrl .crc));
+      mac = macAt mac (length f - (macLen mac + trailerLen (ctrl .crc)));
       trailer = t;
       len = length f;
     }
@@ -97,15 +97,15 @@ fieldsOf f addr ctrl block at mac t =
 -- no room for code and trailer; no room for the MAC; the trailer
 unfoldable pub partsOf : List ℕ → ℕ → Control → BlockAt → ℕ → Bool → Answer Fields
 partsOf f addr ctrl block at mac =
-    refuseIf (ltb (length f) (at + 1 + trailerLen (ctrl .1))) 4 (length f ∷ length f ∷ [])
-    (refuseIf (ltb (length f) (at + 1 + macLen mac + trailerLen (ctrl .1))) 4 (length f ∷ length f ∷ [])
-    (andThen (trailerOf f (ctrl .1)) (λ t. given (fieldsOf f addr ctrl block at mac t))))
+    refuseIf (ltb (length f) (at + 1 + trailerLen (ctrl .crc))) 4 (length f ∷ length f ∷ [])
+    (refuseIf (ltb (length f) (at + 1 + macLen mac + trailerLen (ctrl .crc))) 4 (length f ∷ length f ∷ [])
+    (andThen (trailerOf f (ctrl .crc)) (λ t. given (fieldsOf f addr ctrl block at mac t))))
 
 -- LEN below 7 with a checksum or 8 with a CRC; the block, if there is one; the rest
 unfoldable pub frameOf : List ℕ → ℕ → Control → Answer Fields
 frameOf f addr ctrl =
-    refuseIf (ltb (length f) (6 + trailerLen (ctrl .1))) 4 (length f ∷ length f ∷ [])
-    (choose (ctrl .2)
+    refuseIf (ltb (length f) (6 + trailerLen (ctrl .crc))) 4 (length f ∷ length f ∷ [])
+    (choose (ctrl .block)
     (andThen (scbOf (drop 5 f)) (λ b. partsOf f addr ctrl (blockAt (b .0) 7 (b .1)) (7 + b .1) (hasMac (b .0))))
     (partsOf f addr ctrl noBlock 5 false))
 

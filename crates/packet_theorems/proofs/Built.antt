@@ -24,7 +24,7 @@ use Rattle.packet_build.proofs.Sizes.{Fine, Whole, whole, whole-length, body-le
 
 -- ---- the control byte
 
-control-read-back : (q : ℕ) (t u : Bool) → q ≤ 3 → controlOf (ctrlByte (q, t, u)) ≡ given (q, t, u)
+control-read-back : (q : ℕ) (t u : Bool) → q ≤ 3 → controlOf (ctrlByte (record { sqn = q; crc = t; block = u })) ≡ given (record { sqn = q; crc = t; block = u })
 unfolding controlOf refuseIf
 control-read-back zero true true h = refl
 control-read-back zero true false h = refl
@@ -75,14 +75,14 @@ trailer-read-back x false =
 -- ---- from the code on
 
 parts-back : (x : List ℕ) (a : ℕ) (c : Control) (k : BlockAt) (at : ℕ) (mac : Bool) → at + 1 + macLen mac ≤ length x
-    → partsOf (x ++ tailBytes (c .1) x) a c k at mac ≡ given (fieldsOf (x ++ tailBytes (c .1) x) a c k at mac (tailOf (c .1) x))
+    → partsOf (x ++ tailBytes (c .crc) x) a c k at mac ≡ given (fieldsOf (x ++ tailBytes (c .crc) x) a c k at mac (tailOf (c .crc) x))
 unfolding partsOf refuseIf andThen
 parts-back x a c k at mac h =
-    let f = x ++ tailBytes (c .1) x in
-    let l : length f ≡ length x + trailerLen (c .1) = length-append x (tailBytes (c .1) x) ∙ ap (λ (n : ℕ). length x + n) (tail-length (c .1) x) in
-    let h₁ : at + 1 + trailerLen (c .1) ≤ length f = omega arith in
-    let h₂ : at + 1 + macLen mac + trailerLen (c .1) ≤ length f = omega arith in
-    rw (le-ltb _ _ h₁, le-ltb _ _ h₂, trailer-read-back x (c .1))
+    let f = x ++ tailBytes (c .crc) x in
+    let l : length f ≡ length x + trailerLen (c .crc) = length-append x (tailBytes (c .crc) x) ∙ ap (λ (n : ℕ). length x + n) (tail-length (c .crc) x) in
+    let h₁ : at + 1 + trailerLen (c .crc) ≤ length f = omega arith in
+    let h₂ : at + 1 + macLen mac + trailerLen (c .crc) ≤ length f = omega arith in
+    rw (le-ltb _ _ h₁, le-ltb _ _ h₂, trailer-read-back x (c .crc))
 
 -- ---- the block
 
@@ -98,23 +98,23 @@ block-read-back l r ty e =
 
 -- ---- the frame
 
-frame-none : (x : List ℕ) (a : ℕ) (c : Control) → c .2 ≡ false → 6 ≤ length x
-    → frameOf (x ++ tailBytes (c .1) x) a c ≡ given (fieldsOf (x ++ tailBytes (c .1) x) a c noBlock 5 false (tailOf (c .1) x))
+frame-none : (x : List ℕ) (a : ℕ) (c : Control) → c .block ≡ false → 6 ≤ length x
+    → frameOf (x ++ tailBytes (c .crc) x) a c ≡ given (fieldsOf (x ++ tailBytes (c .crc) x) a c noBlock 5 false (tailOf (c .crc) x))
 unfolding frameOf refuseIf
 frame-none x a c e h =
-    let f = x ++ tailBytes (c .1) x in
-    let l : length f ≡ length x + trailerLen (c .1) = length-append x (tailBytes (c .1) x) ∙ ap (λ (n : ℕ). length x + n) (tail-length (c .1) x) in
-    let h₁ : 6 + trailerLen (c .1) ≤ length f = omega arith in
+    let f = x ++ tailBytes (c .crc) x in
+    let l : length f ≡ length x + trailerLen (c .crc) = length-append x (tailBytes (c .crc) x) ∙ ap (λ (n : ℕ). length x + n) (tail-length (c .crc) x) in
+    let h₁ : 6 + trailerLen (c .crc) ≤ length f = omega arith in
     rw (le-ltb _ _ h₁) (choose-false _ _ _ e ∙ parts-back x a c noBlock 5 false (omega arith))
 
-frame-block : (x l r : List ℕ) (ty : ℕ) (a : ℕ) (c : Control) → c .2 ≡ true → scsOf ty ≡ given ty
-    → drop 5 (x ++ tailBytes (c .1) x) ≡ (length l + 2) ∷ ty ∷ (l ++ r) → 8 + length l + macLen (hasMac ty) ≤ length x
-    → frameOf (x ++ tailBytes (c .1) x) a c ≡ given (fieldsOf (x ++ tailBytes (c .1) x) a c (blockAt ty 7 (length l)) (7 + length l) (hasMac ty) (tailOf (c .1) x))
+frame-block : (x l r : List ℕ) (ty : ℕ) (a : ℕ) (c : Control) → c .block ≡ true → scsOf ty ≡ given ty
+    → drop 5 (x ++ tailBytes (c .crc) x) ≡ (length l + 2) ∷ ty ∷ (l ++ r) → 8 + length l + macLen (hasMac ty) ≤ length x
+    → frameOf (x ++ tailBytes (c .crc) x) a c ≡ given (fieldsOf (x ++ tailBytes (c .crc) x) a c (blockAt ty 7 (length l)) (7 + length l) (hasMac ty) (tailOf (c .crc) x))
 unfolding frameOf refuseIf andThen
 frame-block x l r ty a c e t d h =
-    let f = x ++ tailBytes (c .1) x in
-    let n : length f ≡ length x + trailerLen (c .1) = length-append x (tailBytes (c .1) x) ∙ ap (λ (n : ℕ). length x + n) (tail-length (c .1) x) in
-    let h₁ : 6 + trailerLen (c .1) ≤ length f = omega arith in
+    let f = x ++ tailBytes (c .crc) x in
+    let n : length f ≡ length x + trailerLen (c .crc) = length-append x (tailBytes (c .crc) x) ∙ ap (λ (n : ℕ). length x + n) (tail-length (c .crc) x) in
+    let h₁ : 6 + trailerLen (c .crc) ≤ length f = omega arith in
     let k : scbOf (drop 5 f) ≡ given (ty, length l) = ap scbOf d ∙ block-read-back l r ty t in
     rw (le-ltb _ _ h₁, k) (choose-true _ _ _ e ∙ parts-back x a c (blockAt ty 7 (length l)) (7 + length l) (hasMac ty) (omega arith))
 
@@ -125,7 +125,7 @@ parse-head : (s f : List ℕ) (a : ℕ) (c : Control) → getD s 0 0 ≡ 0x53 �
 unfolding parseOf headOf refuseIf andThen
 parse-head s f a c e₀ e₁ e₄ h l t = rw (le-ltb _ _ h, eq-eqb _ _ e₀, e₄, e₁, le-ltb _ _ l, t)
 
-frame-of : (p : Parts) (n : ℕ) (rest : List ℕ) → length (frameBytes p n) ≡ n → p .ctrl .0 ≤ 3 → parseOf (frameBytes p n ++ rest) ≡ frameOf (frameBytes p n) (p .addr) (p .ctrl)
+frame-of : (p : Parts) (n : ℕ) (rest : List ℕ) → length (frameBytes p n) ≡ n → p .ctrl .sqn ≤ 3 → parseOf (frameBytes p n ++ rest) ≡ frameOf (frameBytes p n) (p .addr) (p .ctrl)
 unfolding frameBytes bodyBytes
 frame-of p n rest l q =
     let f = frameBytes p n in
@@ -133,7 +133,7 @@ frame-of p n rest l q =
     let ls : length s ≡ n + length rest = length-append f rest ∙ ap (λ (k : ℕ). k + length rest) l in
     let six : 6 ≤ n = omega (arith, bytes-length p n) in
     let len : lenOf s ≡ n = omega arith in
-    parse-head s f (p .addr) (p .ctrl) refl refl (control-read-back (p .ctrl .0) (p .ctrl .1) (p .ctrl .2) q) (omega arith) (omega arith) (ap (λ (k : ℕ). take k s) len ∙ take-at f rest n l)
+    parse-head s f (p .addr) (p .ctrl) refl refl (control-read-back (p .ctrl .sqn) (p .ctrl .crc) (p .ctrl .block) q) (omega arith) (omega arith) (ap (λ (k : ℕ). take k s) len ∙ take-at f rest n l)
 
 -- ---- the whole
 
@@ -152,7 +152,7 @@ builtFields p n =
       dataStart = 6 + length (blockBytes (p .block));
       dataLen = length (p .«data»);
       mac = macAt (made.due (p .block)) (6 + length (blockBytes (p .block)) + length (p .«data»));
-      trailer = tailOf (p .ctrl .1) (signedBytes p n);
+      trailer = tailOf (p .ctrl .crc) (signedBytes p n);
       len = n;
     }
 
@@ -182,22 +182,22 @@ places a c noScb k d m n have ty l f =
     let p = mk a c noScb k d m in
     let x = signedBytes p n in
     let lx : length x ≡ 6 + length d + length m = length-append (bodyBytes a c noScb k d n) m ∙ ap (λ (j : ℕ). j + length m) (body-length a c noScb k d n) in
-    let len : length (x ++ tailBytes (c .1) x) - (6 + trailerLen (c .1)) ≡ length d = omega (arith, f .total, f .macs) in
-    frame-none x a c (sym (f .flag)) (omega arith) ∙ ap given (same-fields a c noBlock (tailOf (c .1) x) refl refl len refl l)
+    let len : length (x ++ tailBytes (c .crc) x) - (6 + trailerLen (c .crc)) ≡ length d = omega (arith, f .total, f .macs) in
+    frame-none x a c (sym (f .flag)) (omega arith) ∙ ap given (same-fields a c noBlock (tailOf (c .crc) x) refl refl len refl l)
 places a c (scb t bl) k d m n have ty l f =
     let p = mk a c (scb t bl) k d m in
     let x = signedBytes p n in
     let lx : length x ≡ 8 + length bl + length d + length m = length-append (bodyBytes a c (scb t bl) k d n) m ∙ omega (arith, body-length a c (scb t bl) k d n) in
-    let r = k ∷ (d ++ (m ++ tailBytes (c .1) x)) in
-    let e : drop 5 (x ++ tailBytes (c .1) x) ≡ (length bl + 2) ∷ t ∷ (bl ++ r) = ap (λ (z : List ℕ). (length bl + 2) ∷ t ∷ z) (tail-end bl k d m (tailBytes (c .1) x)) in
-    let y = x ++ tailBytes (c .1) x in
+    let r = k ∷ (d ++ (m ++ tailBytes (c .crc) x)) in
+    let e : drop 5 (x ++ tailBytes (c .crc) x) ≡ (length bl + 2) ∷ t ∷ (bl ++ r) = ap (λ (z : List ℕ). (length bl + 2) ∷ t ∷ z) (tail-end bl k d m (tailBytes (c .crc) x)) in
+    let y = x ++ tailBytes (c .crc) x in
     let pre : List ℕ = 0x53 ∷ a ∷ n % 256 ∷ n / 256 ∷ ctrlByte c ∷ (length bl + 2) ∷ t ∷ bl in
-    let whole : y ≡ pre ++ r = ap (λ (z : List ℕ). 0x53 ∷ a ∷ n % 256 ∷ n / 256 ∷ ctrlByte c ∷ (length bl + 2) ∷ t ∷ z) (tail-end bl k d m (tailBytes (c .1) x)) in
-    let code : getD y (7 + length bl) 0 ≡ k = ap (λ (z : List ℕ). getD z (7 + length bl) 0) whole ∙ getD-at pre k (d ++ (m ++ tailBytes (c .1) x)) 0 (7 + length bl) (omega arith) in
+    let whole : y ≡ pre ++ r = ap (λ (z : List ℕ). 0x53 ∷ a ∷ n % 256 ∷ n / 256 ∷ ctrlByte c ∷ (length bl + 2) ∷ t ∷ z) (tail-end bl k d m (tailBytes (c .crc) x)) in
+    let code : getD y (7 + length bl) 0 ≡ k = ap (λ (z : List ℕ). getD z (7 + length bl) 0) whole ∙ getD-at pre k (d ++ (m ++ tailBytes (c .crc) x)) 0 (7 + length bl) (omega arith) in
     let start : 7 + length bl + 1 ≡ 6 + length (blockBytes (scb t bl)) = omega arith in
-    let len : length y - (7 + length bl + 1 + macLen (hasMac t) + trailerLen (c .1)) ≡ length d = omega (arith, f .total, f .macs) in
-    let mac : length y - (macLen (hasMac t) + trailerLen (c .1)) ≡ 6 + length (blockBytes (scb t bl)) + length d = omega (arith, f .total, f .macs) in
-    frame-block x bl r t a c (sym (f .flag)) ty e (omega (arith, f .macs)) ∙ ap given (same-fields a c (blockAt t 7 (length bl)) (tailOf (c .1) x) code start len (ap (macAt (hasMac t)) mac) l)
+    let len : length y - (7 + length bl + 1 + macLen (hasMac t) + trailerLen (c .crc)) ≡ length d = omega (arith, f .total, f .macs) in
+    let mac : length y - (macLen (hasMac t) + trailerLen (c .crc)) ≡ 6 + length (blockBytes (scb t bl)) + length d = omega (arith, f .total, f .macs) in
+    frame-block x bl r t a c (sym (f .flag)) ty e (omega (arith, f .macs)) ∙ ap given (same-fields a c (blockAt t 7 (length bl)) (tailOf (c .crc) x) code start len (ap (macAt (hasMac t)) mac) l)
 
 -- A frame that was built is read back: it gives the places of the parts it was built from, whatever follows it.
 pub built-reads : (p : Parts) (have : ℕ) (b rest : List ℕ) → Typed (p .block) → buildOf p have ≡ given b → parseOf (b ++ rest) ≡ given (builtFields p (length b))

@@ -35,7 +35,7 @@ contents : (p : Parts) (n : ℕ) → length (p .mac) ≡ cond (made.due (p .bloc
 unfolding frameBytes bodyBytes
 contents p n lm =
     let q = headBytes (p .addr) (p .ctrl) n ++ blockBytes (p .block) ++ (p .code ∷ []) in
-    let t = tailBytes (p .ctrl .1) (signedBytes p n) in
+    let t = tailBytes (p .ctrl .crc) (signedBytes p n) in
     let lq : length q ≡ 6 + length (blockBytes (p .block)) = simp length-append (omega arith) in
     let f : frameBytes p n ≡ q ++ (p .«data» ++ (p .mac ++ t)) = append-assoc (q ++ p .«data») (p .mac) t ∙ append-assoc q (p .«data») (p .mac ++ t) in
     let g : frameBytes p n ≡ q ++ p .«data» ++ (p .mac ++ t) = append-assoc (q ++ p .«data») (p .mac) t in

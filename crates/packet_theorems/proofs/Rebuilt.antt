@@ -28,7 +28,7 @@ use Rattle.packet_build.proofs.Sizes.{passes, bytesN-is}
 
 -- ---- the control byte
 
-control-there : (b : ℕ) → Holds (λ c. (ctrlByte c ≡ b) × (c .0 ≤ 3)) (controlOf b)
+control-there : (b : ℕ) → Holds (λ c. (ctrlByte c ≡ b) × (c .sqn ≤ 3)) (controlOf b)
 unfolding controlOf
 control-there b =
     holds-refuse _ _ _ _ _ (λ h. (sum (leb-false 16 b h) (eqb (b / 4 % 2) 1) (eqb (b / 8) 1) refl refl, omega arith))
@@ -90,7 +90,7 @@ record Headed (f : List ℕ) (a : ℕ) (c : Control) : Type 0 where
   addr : getD f 1 0 ≡ a
   len : getD f 2 0 + 256 * getD f 3 0 ≡ length f
   ctrl : ctrlByte c ≡ getD f 4 0
-  sqn : c .0 ≤ 3
+  sqn : c .sqn ≤ 3
   enough : 5 ≤ length f
   bytes : Bytes f
 
@@ -105,7 +105,7 @@ head-there f a c h =
 record Placed (f : List ℕ) (a : ℕ) (c : Control) (k : BlockAt) (at : ℕ) (mac : Bool) : Type 0 where
   front : headBytes a c (length f) ++ blockBytes (frameBlockFrom k f) ≡ take at f
   size : 5 + length (blockBytes (frameBlockFrom k f)) ≡ at
-  flag : made.present (frameBlockFrom k f) ≡ c .2
+  flag : made.present (frameBlockFrom k f) ≡ c .block
   due : made.due (frameBlockFrom k f) ≡ mac
   small : made.blockN (frameBlockFrom k f) ≤ 253
 
@@ -128,36 +128,36 @@ mac-size : (f : List ℕ) (at : ℕ) (mac t : Bool) → at + 1 + macLen mac + tr
 mac-size f at true t h = part-length f (length f - (4 + trailerLen t)) 4 (omega arith)
 mac-size f at false t h = refl
 
-signed-there : (f : List ℕ) (a : ℕ) (c : Control) (k : BlockAt) (at : ℕ) (mac : Bool) (x : Tail) → Placed f a c k at mac → at + 1 + macLen mac + trailerLen (c .1) ≤ length f
-    → signedBytes (partsFrom f (fieldsOf f a c k at mac x)) (length f) ≡ take (length f - trailerLen (c .1)) f
+signed-there : (f : List ℕ) (a : ℕ) (c : Control) (k : BlockAt) (at : ℕ) (mac : Bool) (x : Tail) → Placed f a c k at mac → at + 1 + macLen mac + trailerLen (c .crc) ≤ length f
+    → signedBytes (partsFrom f (fieldsOf f a c k at mac x)) (length f) ≡ take (length f - trailerLen (c .crc)) f
 unfolding bodyBytes
 signed-there f a c k at mac x p h =
-    let n = dataN f at mac (c .1) in
-    let m = macBytesFrom (macAt mac (length f - (macLen mac + trailerLen (c .1)))) f in
+    let n = dataN f at mac (c .crc) in
+    let m = macBytesFrom (macAt mac (length f - (macLen mac + trailerLen (c .crc)))) f in
     ap (λ (z : List ℕ). z ++ (getD f at 0 ∷ []) ++ take n (drop (at + 1) f) ++ m) (p .front)
     ∙ ap (λ (z : List ℕ). z ++ take n (drop (at + 1) f) ++ m) (sym (take-suc f at 0 (omega arith)) ∙ ap (λ (j : ℕ). take j f) (sym (add-one at)))
-    ∙ ap (λ (z : List ℕ). z ++ m) (sym (take-add (at + 1) n f)) ∙ mac-there f at mac (c .1) h
+    ∙ ap (λ (z : List ℕ). z ++ m) (sym (take-add (at + 1) n f)) ∙ mac-there f at mac (c .crc) h
 
 -- F's parts make f again
 abbrev Again : List ℕ → Fields → Type 0
 Again f F = (F .len ≡ length f) × ((have : ℕ) → length f ≤ have → buildOf (partsFrom f F) have ≡ given f)
 
-built-again : (f : List ℕ) (a : ℕ) (c : Control) (k : BlockAt) (at : ℕ) (mac : Bool) (x : Tail) → Headed f a c → Placed f a c k at mac → at + 1 + macLen mac + trailerLen (c .1) ≤ length f
-    → tailBytes (c .1) (take (length f - trailerLen (c .1)) f) ≡ drop (length f - trailerLen (c .1)) f
+built-again : (f : List ℕ) (a : ℕ) (c : Control) (k : BlockAt) (at : ℕ) (mac : Bool) (x : Tail) → Headed f a c → Placed f a c k at mac → at + 1 + macLen mac + trailerLen (c .crc) ≤ length f
+    → tailBytes (c .crc) (take (length f - trailerLen (c .crc)) f) ≡ drop (length f - trailerLen (c .crc)) f
     → (have : ℕ) → length f ≤ have → buildOf (partsFrom f (fieldsOf f a c k at mac x)) have ≡ given f
 unfolding buildOf andThen frameBytes
 built-again f a c k at mac x h p l t have room =
     let b = frameBlockFrom k f in
-    let n = dataN f at mac (c .1) in
-    let m = macBytesFrom (macAt mac (length f - (macLen mac + trailerLen (c .1)))) f in
+    let n = dataN f at mac (c .crc) in
+    let m = macBytesFrom (macAt mac (length f - (macLen mac + trailerLen (c .crc)))) f in
     let ld : length (take n (drop (at + 1) f)) ≡ n = part-length f (at + 1) n (omega arith) in
-    let lm : length m ≡ macLen mac = mac-size f at mac (c .1) l in
+    let lm : length m ≡ macLen mac = mac-size f at mac (c .crc) l in
     let most : length f ≤ 65535 = omega (arith, h .len, h .bytes 2, h .bytes 3) in
-    let total : length f ≡ totalN (c .1) (made.present b) (length m) (made.blockN b) (length (take n (drop (at + 1) f))) = omega (arith, bytesN-is b, p .size) in
+    let total : length f ≡ totalN (c .crc) (made.present b) (length m) (made.blockN b) (length (take n (drop (at + 1) f))) = omega (arith, bytesN-is b, p .size) in
     let e = passes c (made.present b) (made.due b) (length m) (made.blockN b) (length (take n (drop (at + 1) f))) have (length f)
     (record { sqn = h .sqn; flag = p .flag; macs = lm ∙ ap macLen (sym (p .due)); total = total; most = most; room = room; small = p .small }) in
     let s = signed-there f a c k at mac x p l in
-    rw e (ap given (ap (λ (z : List ℕ). z ++ tailBytes (c .1) z) s ∙ ap (λ (z : List ℕ). take (length f - trailerLen (c .1)) f ++ z) t ∙ take-append-drop (length f - trailerLen (c .1)) f))
+    rw e (ap given (ap (λ (z : List ℕ). z ++ tailBytes (c .crc) z) s ∙ ap (λ (z : List ℕ). take (length f - trailerLen (c .crc)) f ++ z) t ∙ take-append-drop (length f - trailerLen (c .crc)) f))
 
 parts-there : (f : List ℕ) (a : ℕ) (c : Control) (k : BlockAt) (at : ℕ) (mac : Bool) → Headed f a c → Placed f a c k at mac → Holds (Again f) (partsOf f a c k at mac)
 unfolding partsOf
@@ -165,7 +165,7 @@ parts-there f a c k at mac h p =
     holds-refuse _ _ _ _ _ (λ _. holds-refuse _ _ _ _ _ (λ l. holds-then _ _ _ (λ x e. (
       refl,
       built-again f a c k at mac x h p (ltb-false _ _ l)
-          (holds-given (λ y. tailBytes (c .1) (take (length f - trailerLen (c .1)) f) ≡ drop (length f - trailerLen (c .1)) f) (trailerOf f (c .1)) x (trailer-there f (c .1) (h .bytes) (omega (arith, h .enough))) e),
+          (holds-given (λ y. tailBytes (c .crc) (take (length f - trailerLen (c .crc)) f) ≡ drop (length f - trailerLen (c .crc)) f) (trailerOf f (c .crc)) x (trailer-there f (c .crc) (h .bytes) (omega (arith, h .enough))) e),
     ))))
 
 -- ---- the block
@@ -187,10 +187,10 @@ block-there g =
     let q : 2 ≤ getD g 0 0 = ltb-false _ _ k in
     record { type = holds-given (λ y. y ≡ getD g 1 0) (scsOf (getD g 1 0)) ty (type-there (getD g 1 0)) e; size = omega arith; inside = ltb-false _ _ l; two = ltb-false _ _ h }))))
 
-placed-none : (f : List ℕ) (a : ℕ) (c : Control) → Headed f a c → c .2 ≡ false → Placed f a c noBlock 5 false
+placed-none : (f : List ℕ) (a : ℕ) (c : Control) → Headed f a c → c .block ≡ false → Placed f a c noBlock 5 false
 placed-none f a c h e = record { front = append-nil _ ∙ head-there f a c h; size = refl; flag = sym e; due = refl; small = omega arith }
 
-placed-block : (f : List ℕ) (a : ℕ) (c : Control) (b : ℕ × ℕ) → Headed f a c → c .2 ≡ true → Blocked (drop 5 f) b → Placed f a c (blockAt (b .0) 7 (b .1)) (7 + b .1) (hasMac (b .0))
+placed-block : (f : List ℕ) (a : ℕ) (c : Control) (b : ℕ × ℕ) → Headed f a c → c .block ≡ true → Blocked (drop 5 f) b → Placed f a c (blockAt (b .0) 7 (b .1)) (7 + b .1) (hasMac (b .0))
 placed-block f a c b h e k =
     let l = length-drop 5 f in
     let n : length (take (b .1) (drop 7 f)) ≡ b .1 = part-length f 7 (b .1) (omega (arith, k .size, k .inside)) in
@@ -213,7 +213,7 @@ frame-there : (f : List ℕ) (a : ℕ) (c : Control) → (6 ≤ length f → Hea
 unfolding frameOf
 frame-there f a c hd =
     holds-refuse _ _ _ _ _ (λ l.
-    let q : 6 + trailerLen (c .1) ≤ length f = ltb-false _ _ l in
+    let q : 6 + trailerLen (c .crc) ≤ length f = ltb-false _ _ l in
     let h = hd (omega arith) in
     holds-choose _ _ _ _
     (λ e. holds-then _ _ _ (λ b g. parts-there f a c (blockAt (b .0) 7 (b .1)) (7 + b .1) (hasMac (b .0)) h (placed-block f a c b h e (holds-given (Blocked (drop 5 f)) (scbOf (drop 5 f)) b (block-there (drop 5 f)) g))))
@@ -227,13 +227,13 @@ record HeadSaid (s : List ℕ) (h : Head) : Type 0 where
   addr : getD s 1 0 ≡ h .addr
   len : lenOf s ≡ h .len
   ctrl : ctrlByte (h .ctrl) ≡ getD s 4 0
-  sqn : h .ctrl .0 ≤ 3
+  sqn : h .ctrl .sqn ≤ 3
 
 head-said : (s : List ℕ) → Holds (HeadSaid s) (headOf s)
 unfolding headOf
 head-said s =
     holds-refuse _ _ _ _ _ (λ _. holds-refuse _ _ _ _ _ (λ m. holds-then _ _ _ (λ c e.
-    let g = holds-given (λ c. (ctrlByte c ≡ getD s 4 0) × (c .0 ≤ 3)) (controlOf (getD s 4 0)) c (control-there (getD s 4 0)) e in
+    let g = holds-given (λ c. (ctrlByte c ≡ getD s 4 0) × (c .sqn ≤ 3)) (controlOf (getD s 4 0)) c (control-there (getD s 4 0)) e in
     record { som = eqb-true _ _ (not-false _ m); addr = refl; len = refl; ctrl = g .0; sqn = g .1 })))
 
 headed : (s : List ℕ) (h : Head) → Bytes s → headOf s ≡ given h → h .len ≤ length s → 6 ≤ length (take (h .len) s) → Headed (take (h .len) s) (h .addr) (h .ctrl)

@@ -78,7 +78,7 @@ placesOf (refused n vs) =
     record {
       outcome = refused n vs;
       addr = 0;
-      ctrl = (0, false, false);
+      ctrl = record { sqn = 0; crc = false; block = false };
       type = 0;
       code = 0;
       trailer = checksum 0;

@@ -24,13 +24,13 @@ use Rattle.secure_cipher.proofs.MacLaws.{mac-counted}
 use Rattle.secure_session.specs.Channel.{sessionMac}
 use Rattle.secure_session.specs.Chain.{sendFrom, sent}
 use Rattle.secure_session.specs.declared.session.Session.{Session}
-use Rattle.secure_seal.specs.Seal.{typeFor, dataLenFor, dataOf, Asked, totalOf, partsWith, bodyWith, sealedFrame}
+use Rattle.secure_seal.specs.Seal.{typeFor, dataLenFor, dataOf, Asked, totalOf, sealedControl, partsWith, bodyWith, sealedFrame}
 use Rattle.secure_seal.specs.Parts.{Put}
 use Rattle.secure_seal.proofs.Places.{part-write}
 use Rattle.secure_seal.proofs.SealLaws.{sealedData}
 
 pub head-bytes : (a b total v sqn k t code : ℕ) → a ≡ b → v ≡ sqn → k ≡ t
-    → 0x53 ∷ a ∷ total % 256 ∷ total / 256 ∷ (v + 12) ∷ 2 ∷ k ∷ code ∷ [] ≡ bodyBytes b (sqn, true, true) (scb t []) code [] total
+    → 0x53 ∷ a ∷ total % 256 ∷ total / 256 ∷ (v + 12) ∷ 2 ∷ k ∷ code ∷ [] ≡ bodyBytes b (sealedControl sqn) (scb t []) code [] total
 unfolding bodyBytes
 head-bytes a b total v sqn k t code ea ev ek =
     let e : v + 12 ≡ sqn + 4 + 8 = omega arith in
@@ -51,7 +51,7 @@ end-written o f y c z end n ey ec ez =
 
 module _ (s : Session) (q : Asked) (o o₁ y : List ℕ) (t total : ℕ) (et : total ≡ totalOf q) (room : total ≤ length o)
     (ey : y ≡ sealedData (s .keys) (sendFrom s) q) (ly : length y ≡ dataLenFor (q .encrypt) (q .payload))
-    (e₁ : o₁ ≡ write o 0 (bodyBytes (q .addr) (q .sqn, true, true) (scb t []) (q .code) [] total)) (ek : t ≡ typeFor (q .direction) (q .encrypt)) where
+    (e₁ : o₁ ≡ write o 0 (bodyBytes (q .addr) (sealedControl (q .sqn)) (scb t []) (q .code) [] total)) (ek : t ≡ typeFor (q .direction) (q .encrypt)) where
   abbrev k : SessionKeys
   k = s .keys
 
@@ -60,17 +60,17 @@ module _ (s : Session) (q : Asked) (o o₁ y : List ℕ) (t total : ℕ) (et : t
 
   length-body : length (bodyWith q (sealedData k v q)) ≡ total - 6
   length-body =
-      omega (arith, body-length (q .addr) (q .sqn, true, true) (scb (typeFor (q .direction) (q .encrypt)) []) (q .code) (sealedData k v q) (totalOf q), ap length (sym ey))
+      omega (arith, body-length (q .addr) (sealedControl (q .sqn)) (scb (typeFor (q .direction) (q .encrypt)) []) (q .code) (sealedData k v q) (totalOf q), ap length (sym ey))
 
-  body-joined : bodyBytes (q .addr) (q .sqn, true, true) (scb t []) (q .code) [] total ++ y ≡ bodyWith q (sealedData k v q)
+  body-joined : bodyBytes (q .addr) (sealedControl (q .sqn)) (scb t []) (q .code) [] total ++ y ≡ bodyWith q (sealedData k v q)
   unfolding bodyBytes
   body-joined = rw (et, ek, ey)
 
   body-written : putMid 8 (total - 6 - 8) o₁ y ≡ write o 0 (bodyWith q (sealedData k v q))
   body-written =
-      let l = body-length (q .addr) (q .sqn, true, true) (scb t []) (q .code) [] total in
+      let l = body-length (q .addr) (sealedControl (q .sqn)) (scb t []) (q .code) [] total in
       part-write o₁ 8 (total - 6 - 8) y (omega arith) ∙ ap (λ (x : List ℕ). write x 8 y) e₁
-      ∙ write-write o 0 (bodyBytes (q .addr) (q .sqn, true, true) (scb t []) (q .code) [] total) 8 y (omega arith) (omega arith) ∙ ap (write o 0) body-joined
+      ∙ write-write o 0 (bodyBytes (q .addr) (sealedControl (q .sqn)) (scb t []) (q .code) [] total) 8 y (omega arith) (omega arith) ∙ ap (write o 0) body-joined
 
   body-seen : take (total - 6) (putMid 8 (total - 6 - 8) o₁ y) ≡ bodyWith q (sealedData k v q)
   body-seen = ap (take (total - 6)) body-written ∙ take-write o (total - 6) (bodyWith q (sealedData k v q)) (sym length-body)

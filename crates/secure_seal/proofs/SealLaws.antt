@@ -32,7 +32,7 @@ use Rattle.secure_cipher.proofs.CbcLaws.{length-hide, bytes-hide, steps-hide}
 use Rattle.secure_cipher.proofs.MacLaws.{mac-block, mac-steps}
 use Rattle.secure_session.specs.Session.{isSecure}
 use Rattle.secure_session.specs.declared.session.State.{State}
-use Rattle.secure_seal.specs.Seal.{typeFor, dataLenFor, dataOf, Asked, totalOf, Sealable, partsWith, bodyWith, sealedFrame, frameTest, sealing, sealRun}
+use Rattle.secure_seal.specs.Seal.{typeFor, dataLenFor, dataOf, Asked, totalOf, Sealable, sealedControl, partsWith, bodyWith, sealedFrame, frameTest, sealing, sealRun}
 use Rattle.secure_seal.specs.declared.frame.Direction.{Direction}
 use Rattle.secure_seal.specs.declared.frame.Direction.the-variants.{AcuToPd, PdToAcu}
 
@@ -136,7 +136,7 @@ abbrev pub fieldsWith : Asked → Tail → Fields
 fieldsWith q t =
     record {
       addr = q .addr;
-      ctrl = (q .sqn, true, true);
+      ctrl = sealedControl (q .sqn);
       block = blockAt (typeFor (q .direction) (q .encrypt)) 7 0;
       code = q .code;
       dataStart = 8;
@@ -146,9 +146,9 @@ fieldsWith q t =
       len = totalOf q;
     }
 
-tests-pass : (sqn n have : ℕ) → sqn ≤ 3 → 14 + n ≤ 65535 → 14 + n ≤ have → testOf (sqn, true, true) true true 4 0 n have ≡ given (14 + n)
+tests-pass : (sqn n have : ℕ) → sqn ≤ 3 → 14 + n ≤ 65535 → 14 + n ≤ have → testOf (sealedControl sqn) true true 4 0 n have ≡ given (14 + n)
 tests-pass sqn n have h m r =
-    passes (sqn, true, true) true true 4 0 n have (14 + n)
+    passes (sealedControl sqn) true true 4 0 n have (14 + n)
     (record { sqn = h; flag = refl; macs = refl; total = omega arith; most = m; room = r; small = omega arith })
 
 -- its data, and the four bytes of its MAC

@@ -9,6 +9,7 @@ use lib.ListN.{length, take}
 use Rattle.laws.specs.Answer.{Answer, Answer.given, Answer.refused, refuseIf}
 use Rattle.laws.specs.Bytes.{Bytes, compl}
 use Rattle.laws.specs.Over.{write}
+use Rattle.packet_head.specs.Header.{Control}
 use Rattle.packet_head.specs.declared.header.Address.{Address}
 use Rattle.packet_head.specs.declared.header.Sqn.{Sqn}
 use Rattle.packet_build.specs.Build.{FrameBlock.scb, Parts, bodyBytes, frameBytes}
@@ -67,14 +68,17 @@ pub record Sealable (q : Asked) : Type 0 where
   pub payload : Bytes (q .payload)
   pub total : totalOf q ≤ 65535
 
--- always a CRC and a block without data
+-- always a CRC and a block, which has no data
+abbrev pub sealedControl : ℕ → Control
+sealedControl n = record { sqn = n; crc = true; block = true }
+
 abbrev pub partsWith : Asked → List ℕ → List ℕ → Parts
 partsWith q d mac =
-    record { addr = q .addr; ctrl = (q .sqn, true, true); block = scb (typeFor (q .direction) (q .encrypt)) []; code = q .code; «data» = d; mac = mac }
+    record { addr = q .addr; ctrl = sealedControl (q .sqn); block = scb (typeFor (q .direction) (q .encrypt)) []; code = q .code; «data» = d; mac = mac }
 
 -- from 53 to the end of data
 abbrev pub bodyWith : Asked → List ℕ → List ℕ
-bodyWith q d = bodyBytes (q .addr) (q .sqn, true, true) (scb (typeFor (q .direction) (q .encrypt)) []) (q .code) d (totalOf q)
+bodyWith q d = bodyBytes (q .addr) (sealedControl (q .sqn)) (scb (typeFor (q .direction) (q .encrypt)) []) (q .code) d (totalOf q)
 
 pub record SealedFrame : Type 0 where
   pub bytes : List ℕ

@@ -10,7 +10,7 @@ ghost use Rattle.packet_head.specs.Block.{typeOf};
 ghost use Rattle.refusal.specs.Reading.{lengthAnswer};
 ghost use Rattle.secure_session.specs.Chain.{sendFrom};
 ghost use Rattle.secure_session.specs.Session.{isSecure};
-ghost use Rattle.secure_seal.specs.Seal.{typeFor, dataLenFor, dataOf, askedOf, frameTest, sealOf, sealTold};
+ghost use Rattle.secure_seal.specs.Seal.{typeFor, dataLenFor, dataOf, askedOf, sealedControl, frameTest, sealOf, sealTold};
 ghost use Rattle.secure_seal.specs.Parts.{Put, refusedWith};
 use packet_head::Address;
 use packet_head::ScsType;
@@ -99,7 +99,7 @@ fn copy(src: &[u8], out: &mut [u8])
 // The eight bytes before the data, in a frame of total bytes: the block has no data of its own, and the trailer is a CRC.
 fn put_head(addr: Address, sqn: Sqn, kind: ScsType, code: u8, total: usize, out: &mut [u8])
     requires { ⌜ (sqn .0 ≤ 3) × (total ≤ 65535) × (8 ≤ length (now out)) ⌝ }
-    ensures { λ _. ⌜ now (out .exit) ≡ write (now (out .entry)) 0 (bodyBytes (addr .0) (sqn .0, true, true) (scb (typeOf kind) []) code [] total) ⌝ }
+    ensures { λ _. ⌜ now (out .exit) ≡ write (now (out .entry)) 0 (bodyBytes (addr .0) (sealedControl (sqn .0)) (scb (typeOf kind) []) code [] total) ⌝ }
 {
     let head = [
         0x53,

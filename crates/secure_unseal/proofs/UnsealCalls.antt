@@ -35,7 +35,7 @@ use Rattle.secure_unseal.proofs.Wiping.{check-counted}
 -- ---- where the MAC stands: after the body
 
 abbrev Placed : Fields → Type 0
-Placed p = p .mac ≡ macAt (hasMac (typeIn (p .block))) (p .len - (macLen (hasMac (typeIn (p .block))) + trailerLen (p .ctrl .1)))
+Placed p = p .mac ≡ macAt (hasMac (typeIn (p .block))) (p .len - (macLen (hasMac (typeIn (p .block))) + trailerLen (p .ctrl .crc)))
 
 parts-placed : (f : List ℕ) (a : ℕ) (c : Control) (b : BlockAt) (at : ℕ) → Holds Placed (partsOf f a c b at (hasMac (typeIn b)))
 unfolding partsOf
@@ -137,7 +137,7 @@ module _ (k : SessionKeys) (v f : List ℕ) (p : Fields) (e : parseOf f ≡ give
 
   module _ (due : hasMac (typeIn (p .block)) ≡ true) where
     body-start : macStart (p .mac) ≡ bodyLen p
-    body-start = ap macStart (holds-given Placed (parseOf f) p (parse-placed f) e) ∙ start-due (hasMac (typeIn (p .block))) (p .len) (trailerLen (p .ctrl .1)) due
+    body-start = ap macStart (holds-given Placed (parseOf f) p (parse-placed f) e) ∙ start-due (hasMac (typeIn (p .block))) (p .len) (trailerLen (p .ctrl .crc)) due
 
     check-steps : macCheck .steps ≡ macCalls (bodyLen p)
     check-steps = sym (check-counted k v f (macStart (p .mac)) (omega (arith, mac-inside f p e due))) ∙ ap macCalls body-start

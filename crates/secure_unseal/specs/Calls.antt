@@ -17,7 +17,7 @@ unsealNumber (refused n vs) = n
 
 -- what the MAC is over, the body: LEN, less the MAC and the trailer
 abbrev pub bodyLen : Fields → ℕ
-bodyLen p = p .len - 4 - trailerLen (p .ctrl .1)
+bodyLen p = p .len - 4 - trailerLen (p .ctrl .crc)
 
 -- for the data: one for each block of types 17 and 18; none where it has no whole blocks
 unfoldable pub dataCalls : Fields → ℕ

@@ -14,12 +14,12 @@ returns c =
     let a = c .before .before .before .before .before .before .before .args in
     c .encoded-c .ensures
     ∙ ap cAnswer (c .before .encode .ensures ∙ ap encodeOf (c .before .before .new2 .ensures)
-    ∙ sym (then-given _ _ (λ (n : ℕ). encodeOf (n, a .crc, a .block)) (sym (c .before .before .before .before .before .before .new .ensures) ∙ ap sqnAnswer (c .before .before .before .before .s .given .1))))
+    ∙ sym (then-given _ _ (λ (n : ℕ). encodeOf (record { sqn = n; crc = a .crc; block = a .block })) (sym (c .before .before .before .before .before .before .new .ensures) ∙ ap sqnAnswer (c .before .before .before .before .s .given .1))))
 
 returns-2 : tie.Need-returns-2
 returns-2 c =
     let a = c .before .before .before .before .before .args in
-    c .refused .ensures ∙ ap cAnswer (sym (then-refused _ _ _ (λ (n : ℕ). encodeOf (n, a .crc, a .block)) (sym (c .before .before .before .before .new .ensures) ∙ ap sqnAnswer (c .before .before .e .given .1))))
+    c .refused .ensures ∙ ap cAnswer (sym (then-refused _ _ _ (λ (n : ℕ). encodeOf (record { sqn = n; crc = a .crc; block = a .block })) (sym (c .before .before .before .before .new .ensures) ∙ ap sqnAnswer (c .before .before .e .given .1))))
 
 pub malstrink-control-encode-spec : {M : Type 1} → statement M
 malstrink-control-encode-spec =

@@ -6,6 +6,7 @@ use mathlib.Core.List.{[]}
 use Rattle.packet_head.specs.Block.{typeOf}
 use Rattle.packet_build.specs.Build.{FrameBlock.scb, bodyBytes}
 use Rattle.packet_build.proofs.Sizes.{body-length}
+use Rattle.secure_seal.specs.Seal.{sealedControl}
 use Rattle.secure_seal.proofs.Places.{front-write}
 use Rattle.secure_seal.proofs.FrameWritten.{head-bytes}
 use native.Mathlib.Omega.{arith}
@@ -24,11 +25,11 @@ returns : tie.Need-returns
 returns c =
     let s = c .before .before .before .before .before .before .before .before .before in
     let a = s .args in
-    front-write (a .out .now) (bodyBytes (a .addr .0) (a .sqn .0, true, true) (scb (typeOf (a .kind)) []) (a .code) [] (a .total)) _ 8
+    front-write (a .out .now) (bodyBytes (a .addr .0) (sealedControl (a .sqn .0)) (scb (typeOf (a .kind)) []) (a .code) [] (a .total)) _ 8
     (c .before .before .copy .ensures
     ∙ head-bytes _ (a .addr .0) (a .total) _ (a .sqn .0) _ (typeOf (a .kind)) (a .code) (c .before .before .before .before .before .before .before .as-byte .ensures)
     (c .before .before .before .before .before .before .value .ensures) (c .before .before .before .before .before .as-byte2 .ensures))
-    (omega (arith, body-length (a .addr .0) (a .sqn .0, true, true) (scb (typeOf (a .kind)) []) (a .code) [] (a .total)))
+    (omega (arith, body-length (a .addr .0) (sealedControl (a .sqn .0)) (scb (typeOf (a .kind)) []) (a .code) [] (a .total)))
 
 pub put-head-spec : {M : Type 1} → statement M
 put-head-spec =
