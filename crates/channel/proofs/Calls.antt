@@ -20,7 +20,7 @@ use Rattle.packet_head.specs.declared.header.ControlByte.{ControlByte}
 use Rattle.packet_head.specs.declared.header.Sqn.{Sqn}
 use Rattle.packet_head.specs.declared.scb.ScsType.{ScsType}
 use Rattle.packet_parse.specs.Frame.{Fields, parseOf}
-use Rattle.packet_build.specs.Build.{FrameBlock.scb, Parts, buildOf, partsGiven}
+use Rattle.packet_build.specs.Build.{FrameBlock.scb, FrameParts, buildOf, partsGiven}
 use Rattle.packet_build.specs.declared.codec.BuildBlock.{BuildBlock}
 use Rattle.packet_build.specs.declared.codec.GivenMac.{GivenMac}
 use Rattle.packet_view.specs.View.{Part, Shown, placesOf, placesTold, bytesAt, dataIn, payloadOf}
@@ -118,13 +118,13 @@ pub payload-there : (f : List ℕ) → take (placesOf (parseOf f) .payload .1) (
 unfolding payloadOf
 payload-there f = read-there f (parseOf f)
 
-module _ (ty : ℕ) (w : Wire) (x : List ℕ) (q : Parts) (r : LengthAnswer) (p : Places) (o f : List ℕ) (given-eq : q ≡ wireParts ty w x) where
+module _ (ty : ℕ) (w : Wire) (x : List ℕ) (q : FrameParts) (r : LengthAnswer) (p : Places) (o f : List ℕ) (given-eq : q ≡ wireParts ty w x) where
   pub carried-as : lengthAnswer r ≡ sized (buildOf q (length (w .out))) → o ≡ written (w .out) (buildOf q (length (w .out)))
       → f ≡ onLine (lengthAnswer r) o → placesTold p ≡ placesOf (parseOf f)
       → carriageTold (record { sent = r; start = p .«data_at»; len = p .«data_len» }) o ≡ carriage ty w x
   unfolding carriage
   carried-as hr ho hf hp =
-      let b : buildOf q (length (w .out)) ≡ buildOf (wireParts ty w x) (length (w .out)) = ap (λ (t : Parts). buildOf t (length (w .out))) given-eq in
+      let b : buildOf q (length (w .out)) ≡ buildOf (wireParts ty w x) (length (w .out)) = ap (λ (t : FrameParts). buildOf t (length (w .out))) given-eq in
       let r₁ = hr ∙ ap sized b in
       let o₁ = ho ∙ ap (written (w .out)) b in
       let l₁ = ap₂ onLine r₁ o₁ in

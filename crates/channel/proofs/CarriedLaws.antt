@@ -12,28 +12,28 @@ use Rattle.laws.proofs.Overwrite.{take-write}
 use Rattle.packet_head.specs.Block.{hasMac, scsOf}
 use Rattle.packet_head.specs.Trailer.{trailerLen, macLen}
 use Rattle.packet_parse.specs.Frame.{parseOf}
-use Rattle.packet_build.specs.Build.{Parts, totalN, testOf, frameBytes, buildOf}
+use Rattle.packet_build.specs.Build.{FrameParts, totalLen, testOf, sizesOf, frameBytes, buildOf}
 use Rattle.packet_build.proofs.Sizes.{passes}
 use Rattle.packet_build.proofs.Frames.{build-given}
 use Rattle.packet_view.specs.View.{payloadOf}
 use Rattle.packet_theorems.proofs.Built.{builtFields}
 use Rattle.packet_theorems.proofs.ReadBack.{built-reads-back}
-use Rattle.channel.specs.Carried.{Wire, wireParts, onLine, carriage, carried, WireFits}
+use Rattle.channel.specs.Carried.{Wire, wireParts, wireSizes, onLine, carriage, carried, WireFits}
 
 tail-most : (t : Bool) → trailerLen t ≤ 2
 tail-most true = omega arith
 tail-most false = omega arith
 
 module _ (ty : ℕ) (w : Wire) (x : List ℕ) (known : scsOf ty ≡ given ty) (bare : hasMac ty ≡ false) (small : length x ≤ 32) (h : WireFits w (length x)) where
-  abbrev parts : Parts
+  abbrev parts : FrameParts
   parts = wireParts ty w x
 
   abbrev total : ℕ
-  total = totalN (w .useCrc) true 0 (length (w .block)) (length x)
+  total = totalLen (w .useCrc) (wireSizes w (length x))
 
-  passed : testOf (parts .ctrl) true (hasMac ty) 0 (length (w .block)) (length x) (length (w .out)) ≡ given total
+  passed : testOf (parts .ctrl) (sizesOf parts 0 (length (w .out))) ≡ given total
   passed =
-      passes (parts .ctrl) true (hasMac ty) 0 (length (w .block)) (length x) (length (w .out)) total (record {
+      passes (parts .ctrl) (sizesOf parts 0 (length (w .out))) total (record {
         sqn = h .sqn;
         flag = refl;
         macs = ap macLen (sym bare);
@@ -56,4 +56,4 @@ module _ (ty : ℕ) (w : Wire) (x : List ℕ) (known : scsOf ty ≡ given ty) (b
   unfolding carried carriage onLine payloadOf
   carried-eq =
       rw (built, sent, reads)
-      (ap (λ (p : Parts). p .«data») (built-reads-back parts (length (w .out)) (frameBytes parts total) [] known built .1))
+      (ap (λ (p : FrameParts). p .«data») (built-reads-back parts (length (w .out)) (frameBytes parts total) [] known built .1))

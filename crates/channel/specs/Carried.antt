@@ -1,16 +1,17 @@
 -- A message of the handshake in a frame (docs/RULES.md, 3, 4 and 7.4): built into the sender's buffer, delivered, read by the peer.
 -- Assumes nothing.
 use Prim.Native.Nat.{ℕ, _≤_}
-use mathlib.Core.Bool.{Bool, true}
+use mathlib.Core.Bool.{Bool, true, false}
 use mathlib.Core.List.{List, []}
 use lib.ListN.{length, take, drop}
 use denote.Ref.{RefT, now}
 use Rattle.laws.specs.Answer.{Answer, Answer.given, Answer.refused}
 use Rattle.laws.specs.Buffer.{sized, written}
+use Rattle.packet_head.specs.Numbers.{«MAX_SQN», «MAX_SCB_DATA»}
 use Rattle.packet_head.specs.declared.header.Address.{Address}
 use Rattle.packet_head.specs.declared.header.Sqn.{Sqn}
 use Rattle.packet_parse.specs.Frame.{parseOf}
-use Rattle.packet_build.specs.Build.{FrameBlock.scb, Parts, totalN, buildOf}
+use Rattle.packet_build.specs.Build.{FrameBlock.scb, FrameParts, FrameSizes, totalLen, buildOf}
 use Rattle.packet_view.specs.Stretch.{Stretch, stretchIn}
 use Rattle.packet_view.specs.View.{Part, placesOf, payloadOf}
 use Rattle.refusal.specs.Reading.{lengthAnswer}
@@ -26,7 +27,7 @@ pub record Wire : Type 0 where
   pub out : List ℕ
 
 -- a message x in a frame of type ty, which has no MAC
-abbrev pub wireParts : ℕ → Wire → List ℕ → Parts
+abbrev pub wireParts : ℕ → Wire → List ℕ → FrameParts
 wireParts ty w x = record { addr = w .addr; ctrl = record { sqn = w .sqn; crc = w .useCrc; block = true }; block = scb ty (w .block); code = w .code; «data» = x; mac = [] }
 
 -- what is sent: as many bytes of the buffer as the call answered, and nothing after a refusal
@@ -55,11 +56,15 @@ carriage ty w x =
 unfoldable pub carried : ℕ → Wire → List ℕ → List ℕ
 carried ty w x = carriage ty w x .read
 
--- within limits and buffers, for a message of n bytes
+-- the sizes of its frame, for a message of n bytes
+abbrev pub wireSizes : Wire → ℕ → FrameSizes
+wireSizes w n = record { hasBlock = true; macDue = false; mac = 0; blockData = length (w .block); «data» = n; room = length (w .out) }
+
+-- within limits and buffers
 pub record WireFits (w : Wire) (n : ℕ) : Type 0 where
-  pub sqn : w .sqn ≤ 3
-  pub block : length (w .block) ≤ 253
-  pub room : totalN (w .useCrc) true 0 (length (w .block)) n ≤ length (w .out)
+  pub sqn : w .sqn ≤ «MAX_SQN»
+  pub block : length (w .block) ≤ «MAX_SCB_DATA»
+  pub room : totalLen (w .useCrc) (wireSizes w n) ≤ length (w .out)
 
 -- ---- the code's kinds, as the paper has them; `o` is the buffer in the end
 

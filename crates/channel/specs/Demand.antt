@@ -6,6 +6,7 @@ use mathlib.Core.List.{List, [], _∷_}
 use mathlib.Core.Path.{_≡_}
 use lib.ListN.{length, take}
 use Rattle.laws.specs.Answer.{Answer.given}
+use Rattle.packet_head.specs.Numbers.{«MAC_LEN», «CRC_LEN»}
 use Rattle.packet_parse.specs.Frame.{Fields, macStart, parseOf}
 use Rattle.secure_keys.specs.Keys.{Random}
 use Rattle.secure_session.specs.Apart.{Apart}
@@ -80,7 +81,7 @@ encryptedLen true x = dataLenFor true x
 encryptedLen false x = 0
 
 abbrev pub secretFor : Bool → List ℕ → ℕ
-secretFor e x = encryptedLen e x + 4 + 2
+secretFor e x = encryptedLen e x + «MAC_LEN» + «CRC_LEN»
 
 abbrev pub secretLen : Send → ℕ
 secretLen s = secretFor (s .encrypt) (s .payload)

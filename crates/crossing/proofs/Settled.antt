@@ -8,7 +8,7 @@ use Rattle.laws.specs.Answer.{Answer, Answer.given, Answer.refused}
 use Rattle.refusal.specs.declared.Outcome.{Outcome}
 use Rattle.refusal.proofs.OneReading.{named, told-back, outcome-settled}
 use Rattle.packet_head.proofs.Settled.{controlFrom, typeFrom, type-back}
-use Rattle.packet_build.specs.Build.{FrameBlock, FrameBlock.noScb, FrameBlock.scb, Parts, scbGiven, macBytes}
+use Rattle.packet_build.specs.Build.{FrameBlock, FrameBlock.noScb, FrameBlock.scb, FrameParts, scbGiven, macBytes}
 use Rattle.packet_build.specs.declared.codec.BuildBlock.{BuildBlock}
 use Rattle.packet_build.specs.declared.codec.GivenMac.{GivenMac}
 use Rattle.packet_build.specs.declared.codec.PacketBuilder.{PacketBuilder}
@@ -30,7 +30,7 @@ block-back : (b : BuildBlock) → blockFrom (scbGiven b []) ≡ b
 block-back BuildBlock.Absent = refl
 block-back (BuildBlock.Of t) = ap BuildBlock.Of (type-back t)
 
-abbrev packetFrom : Answer Parts → AskedPacket
+abbrev packetFrom : Answer FrameParts → AskedPacket
 packetFrom (given q) =
     AskedPacket.Good (record { addr = record { 0 = q .addr }; ctrl = controlFrom (q .ctrl); block = blockFrom (q .block); code = q .code })
 packetFrom (refused n vs) = AskedPacket.Refused (named n vs)

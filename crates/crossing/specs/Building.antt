@@ -10,7 +10,7 @@ use Rattle.refusal.specs.Paper.{refusalOf}
 use Rattle.packet_head.specs.Header.{sqnOf}
 use Rattle.packet_head.specs.Block.{scsOf}
 use Rattle.packet_build.specs.declared.codec.GivenMac.{GivenMac}
-use Rattle.packet_build.specs.Build.{FrameBlock, FrameBlock.noScb, FrameBlock.scb, Parts, partsGiven, scbGiven, macBytes}
+use Rattle.packet_build.specs.Build.{FrameBlock, FrameBlock.noScb, FrameBlock.scb, FrameParts, partsGiven, scbGiven, macBytes}
 use Rattle.crossing.specs.declared.build.CPacket.{CPacket}
 use Rattle.crossing.specs.declared.build.CMac.{CMac}
 use Rattle.crossing.specs.declared.build.Kind.{Kind}
@@ -22,7 +22,7 @@ blockArg ty l = choose (eqb ty 0) (given noScb) (andThen (scsOf ty) (λ t. given
 abbrev pub macArg : CMac → List ℕ
 macArg m = cond (m .given) (m .b0 ∷ m .b1 ∷ m .b2 ∷ m .b3 ∷ []) []
 
-unfoldable pub partsArg : CPacket → List ℕ → List ℕ → List ℕ → Answer Parts
+unfoldable pub partsArg : CPacket → List ℕ → List ℕ → List ℕ → Answer FrameParts
 partsArg p l d m =
     andThen (sqnOf (p .sqn)) (λ n.
     andThen (blockArg (p .«block_type») l) (λ b.
@@ -34,7 +34,7 @@ abbrev pub kindAnswer : Kind → List ℕ → Answer FrameBlock
 kindAnswer (Kind.Good k) l = given (scbGiven k l)
 kindAnswer (Kind.Refused e) l = refusalOf e
 
-abbrev pub askedParts : AskedPacket → List ℕ → List ℕ → GivenMac → Answer Parts
+abbrev pub askedParts : AskedPacket → List ℕ → List ℕ → GivenMac → Answer FrameParts
 askedParts (AskedPacket.Good w) l d m = given (partsGiven w l d m)
 askedParts (AskedPacket.Refused e) l d m = refusalOf e
 

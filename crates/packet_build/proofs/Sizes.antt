@@ -11,7 +11,7 @@ use Rattle.laws.specs.Answer.{Answer.given, refuseIf}
 use Rattle.laws.proofs.Answers.{Holds, holds-refuse, holds-then, holds-given}
 use Rattle.packet_head.specs.Header.{Control}
 use Rattle.packet_head.specs.Trailer.{trailerLen, macLen}
-use Rattle.packet_build.specs.Build.{FrameBlock, FrameBlock.noScb, FrameBlock.scb, Parts, present, due, blockN, blockBytes, bodyBytes, signedBytes, tailBytes, frameBytes, differ, testOf, totalN, buildOf, partsTest}
+use Rattle.packet_build.specs.Build.{FrameBlock, FrameBlock.noScb, FrameBlock.scb, FrameParts, present, due, blockN, blockBytes, bodyBytes, coveredBytes, tailBytes, frameBytes, differ, FrameSizes, testOf, totalLen, sizesOf, buildOf}
 
 -- ---- lengths
 
@@ -27,16 +27,16 @@ pub body-length : (a : ℕ) (c : Control) (b : FrameBlock) (k : ℕ) (d : List �
 unfolding bodyBytes
 body-length a c b k d n = simp length-append (omega arith)
 
-pub signed-length : (p : Parts) (n : ℕ) → length (signedBytes p n) ≡ 6 + length (blockBytes (p .block)) + length (p .«data») + length (p .mac)
-signed-length p n =
+pub covered-length : (p : FrameParts) (n : ℕ) → length (coveredBytes p n) ≡ 6 + length (blockBytes (p .block)) + length (p .«data») + length (p .mac)
+covered-length p n =
     let body = bodyBytes (p .addr) (p .ctrl) (p .block) (p .code) (p .«data») n in
     omega (arith, length-append body (p .mac), body-length (p .addr) (p .ctrl) (p .block) (p .code) (p .«data») n)
 
-pub bytes-length : (p : Parts) (n : ℕ) → length (frameBytes p n) ≡ 6 + length (blockBytes (p .block)) + length (p .«data») + length (p .mac) + trailerLen (p .ctrl .crc)
+pub bytes-length : (p : FrameParts) (n : ℕ) → length (frameBytes p n) ≡ 6 + length (blockBytes (p .block)) + length (p .«data») + length (p .mac) + trailerLen (p .ctrl .crc)
 unfolding frameBytes
 bytes-length p n =
-    length-append (signedBytes p n) (tailBytes (p .ctrl .crc) (signedBytes p n))
-    ∙ omega (arith, signed-length p n, tail-length (p .ctrl .crc) (signedBytes p n))
+    length-append (coveredBytes p n) (tailBytes (p .ctrl .crc) (coveredBytes p n))
+    ∙ omega (arith, covered-length p n, tail-length (p .ctrl .crc) (coveredBytes p n))
 
 -- ---- what holds once every test has passed
 
@@ -46,23 +46,23 @@ differ-false true false e = e
 differ-false false true e = sym e
 differ-false false false e = refl
 
-pub record Fine (c : Control) (there d : Bool) (mac block dat have n : ℕ) : Type 0 where
+pub record Fine (c : Control) (z : FrameSizes) (n : ℕ) : Type 0 where
   pub sqn : c .sqn ≤ 3
-  pub flag : there ≡ c .block
-  pub macs : mac ≡ macLen d
-  pub total : n ≡ totalN (c .crc) there mac block dat
+  pub flag : z .hasBlock ≡ c .block
+  pub macs : z .mac ≡ macLen (z .macDue)
+  pub total : n ≡ totalLen (c .crc) z
   pub most : n ≤ 65535
-  pub room : n ≤ have
-  pub small : block ≤ 253
+  pub room : n ≤ z .room
+  pub small : z .blockData ≤ 253
 
-pub fine : (c : Control) (there d : Bool) (mac block dat have : ℕ) → Holds (Fine c there d mac block dat have) (testOf c there d mac block dat have)
+pub fine : (c : Control) (z : FrameSizes) → Holds (Fine c z) (testOf c z)
 unfolding testOf
-fine c there d mac block dat have =
+fine c z =
     holds-refuse _ _ _ _ _ (λ q. holds-refuse _ _ _ _ _ (λ t. holds-refuse _ _ _ _ _ (λ e.
     holds-refuse _ _ _ _ _ (λ s. holds-refuse _ _ _ _ _ (λ m. holds-refuse _ _ _ _ _ (λ r.
     record {
       sqn = ltb-false _ _ q;
-      flag = differ-false there (c .block) t;
+      flag = differ-false (z .hasBlock) (c .block) t;
       macs = eqb-true _ _ (not-false _ e);
       total = refl;
       most = ltb-false _ _ m;
@@ -75,32 +75,31 @@ same-off : (a b : Bool) → a ≡ b → differ a b ≡ false
 same-off true b e = rw (← e)
 same-off false b e = rw (← e)
 
-pub passes : (c : Control) (there d : Bool) (mac block dat have n : ℕ) → Fine c there d mac block dat have n → testOf c there d mac block dat have ≡ given n
+pub passes : (c : Control) (z : FrameSizes) (n : ℕ) → Fine c z n → testOf c z ≡ given n
 unfolding testOf refuseIf
-passes c there d mac block dat have n f =
-    let h₅ : totalN (c .crc) there mac block dat ≤ 65535 = omega (arith, f .total, f .most) in
-    let h₆ : totalN (c .crc) there mac block dat ≤ have = omega (arith, f .total, f .room) in
+passes c z n f =
+    let h₅ : totalLen (c .crc) z ≤ 65535 = omega (arith, f .total, f .most) in
+    let h₆ : totalLen (c .crc) z ≤ z .room = omega (arith, f .total, f .room) in
     rw (le-ltb _ _ (f .sqn), same-off _ _ (f .flag), eq-eqb _ _ (f .macs), le-ltb _ _ (f .small), le-ltb _ _ h₅, le-ltb _ _ h₆) (ap given (sym (f .total)))
 
 -- the same of parts that are to have `mac` bytes of MAC
-abbrev pub FineParts : Parts → ℕ → ℕ → ℕ → Type 0
-FineParts p mac have n = Fine (p .ctrl) (present (p .block)) (due (p .block)) mac (blockN (p .block)) (length (p .«data»)) have n
+abbrev pub FineParts : FrameParts → ℕ → ℕ → ℕ → Type 0
+FineParts p mac have n = Fine (p .ctrl) (sizesOf p mac have) n
 
-pub fine-parts : (p : Parts) (mac have n : ℕ) → partsTest (p .ctrl) (p .block) mac (length (p .«data»)) have ≡ given n → FineParts p mac have n
+pub fine-parts : (p : FrameParts) (mac have n : ℕ) → testOf (p .ctrl) (sizesOf p mac have) ≡ given n → FineParts p mac have n
 fine-parts p mac have n e =
-    holds-given (FineParts p mac have) (partsTest (p .ctrl) (p .block) mac (length (p .«data»)) have) n
-    (fine (p .ctrl) (present (p .block)) (due (p .block)) mac (blockN (p .block)) (length (p .«data»)) have) e
+    holds-given (FineParts p mac have) (testOf (p .ctrl) (sizesOf p mac have)) n (fine (p .ctrl) (sizesOf p mac have)) e
 
 -- of a frame that was built
-pub record Whole (p : Parts) (have : ℕ) (b : List ℕ) : Type 0 where
+pub record Whole (p : FrameParts) (have : ℕ) (b : List ℕ) : Type 0 where
   pub n : ℕ
   pub bytes : b ≡ frameBytes p n
   pub tests : FineParts p (length (p .mac)) have n
 
-pub whole : (p : Parts) (have : ℕ) → Holds (Whole p have) (buildOf p have)
+pub whole : (p : FrameParts) (have : ℕ) → Holds (Whole p have) (buildOf p have)
 unfolding buildOf
 whole p have = holds-then _ _ _ (λ n e. record { n = n; bytes = refl; tests = fine-parts p (length (p .mac)) have n e })
 
 -- LEN counts all
-pub whole-length : (p : Parts) (have n : ℕ) → FineParts p (length (p .mac)) have n → length (frameBytes p n) ≡ n
+pub whole-length : (p : FrameParts) (have n : ℕ) → FineParts p (length (p .mac)) have n → length (frameBytes p n) ≡ n
 whole-length p have n f = omega (arith, f .total, bytes-length p n, bytesN-is (p .block))

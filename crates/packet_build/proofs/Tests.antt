@@ -1,7 +1,7 @@
 -- The tests of building, one after the other: what each leaves to the next, and what they hand on.
 -- Assumes nothing.
 use mathlib.Core.Path.{_≡_, sym, ap, _∙_}
-use mathlib.Core.Bool.{Bool, true, false}
+use mathlib.Core.Bool.{true, false}
 use mathlib.Core.List.{[], _∷_}
 use Prim.Native.Nat.{ℕ, _≤_, _<_}
 use native.Mathlib.Omega.{arith}
@@ -13,7 +13,7 @@ use Rattle.refusal.specs.Paper.{refusalOf}
 use Rattle.refusal.specs.declared.Refusal.{Refusal}
 use Rattle.packet_head.specs.Header.{Control, ctrlByte, encodeOf}
 use Rattle.packet_head.specs.Trailer.{macLen}
-use Rattle.packet_build.specs.Build.{differ, testOf, totalN}
+use Rattle.packet_build.specs.Build.{differ, FrameSizes, testOf, totalLen}
 use Rattle.packet_build.specs.Tested.{withCtrl}
 
 -- ---- the control byte, encoded first
@@ -36,43 +36,43 @@ pub encoded-byte : (c : Control) (b : ℕ) → given b ≡ encodeOf c → b ≡ 
 encoded-byte c b e = let k = encode-fine c (encoded-sqn c b e) in cc
 
 -- a refusal to encode is the first test's
-pub encode-refused : (c : Control) (there due : Bool) (mac block dat have : ℕ) (e : Refusal) → _≡_ {A = Answer ℕ} (refusalOf e) (encodeOf c)
-    → refusalOf e ≡ withCtrl c (testOf c there due mac block dat have)
+pub encode-refused : (c : Control) (z : FrameSizes) (e : Refusal) → _≡_ {A = Answer ℕ} (refusalOf e) (encodeOf c)
+    → refusalOf e ≡ withCtrl c (testOf c z)
 unfolding testOf refuseIf withCtrl andThen
-encode-refused c there due mac block dat have e h = elim (decLt 3 (c .sqn)) [
+encode-refused c z e h = elim (decLt 3 (c .sqn)) [
   | yes l ↦ let k = h ∙ encode-over c l in rw (lt-ltb _ _ l) (cc)
   | no n ↦ absurd (given-refused (sym (h ∙ encode-fine c (omega arith))))
 ]
 
 -- ---- the others, in their order, once the control byte is b
 
-module _ (c : Control) (there due : Bool) (mac block dat have b : ℕ) (e : given b ≡ encodeOf c) where
-  pub refused-3 : differ there (c .block) ≡ true → refused 3 (b ∷ []) ≡ withCtrl c (testOf c there due mac block dat have)
+module _ (c : Control) (z : FrameSizes) (b : ℕ) (e : given b ≡ encodeOf c) where
+  pub refused-3 : differ (z .hasBlock) (c .block) ≡ true → refused 3 (b ∷ []) ≡ withCtrl c (testOf c z)
   unfolding testOf refuseIf withCtrl andThen
   refused-3 d = rw (le-ltb _ _ (encoded-sqn c b e), d, encoded-byte c b e)
 
-  pub refused-11 : differ there (c .block) ≡ false → (mac ≡ macLen due → ⊥) → refused 11 [] ≡ withCtrl c (testOf c there due mac block dat have)
+  pub refused-11 : differ (z .hasBlock) (c .block) ≡ false → (z .mac ≡ macLen (z .macDue) → ⊥) → refused 11 [] ≡ withCtrl c (testOf c z)
   unfolding testOf refuseIf withCtrl andThen
   refused-11 d m = rw (le-ltb _ _ (encoded-sqn c b e), d, ne-eqb _ _ m)
 
-  pub refused-17 : differ there (c .block) ≡ false → mac ≡ macLen due → 253 < block → refused 17 (block ∷ []) ≡ withCtrl c (testOf c there due mac block dat have)
+  pub refused-17 : differ (z .hasBlock) (c .block) ≡ false → z .mac ≡ macLen (z .macDue) → 253 < z .blockData → refused 17 (z .blockData ∷ []) ≡ withCtrl c (testOf c z)
   unfolding testOf refuseIf withCtrl andThen
   refused-17 d m h = rw (le-ltb _ _ (encoded-sqn c b e), d, eq-eqb _ _ m, lt-ltb _ _ h)
 
-  pub refused-12 : differ there (c .block) ≡ false → mac ≡ macLen due → block ≤ 253 → 65535 < totalN (c .crc) there mac block dat
-      → refused 12 (totalN (c .crc) there mac block dat ∷ 65535 ∷ []) ≡ withCtrl c (testOf c there due mac block dat have)
+  pub refused-12 : differ (z .hasBlock) (c .block) ≡ false → z .mac ≡ macLen (z .macDue) → z .blockData ≤ 253 → 65535 < totalLen (c .crc) z
+      → refused 12 (totalLen (c .crc) z ∷ 65535 ∷ []) ≡ withCtrl c (testOf c z)
   unfolding testOf refuseIf withCtrl andThen
   refused-12 d m s h = rw (le-ltb _ _ (encoded-sqn c b e), d, eq-eqb _ _ m, le-ltb _ _ s, lt-ltb _ _ h)
 
-  pub refused-18 : differ there (c .block) ≡ false → mac ≡ macLen due → block ≤ 253 → totalN (c .crc) there mac block dat ≤ 65535
-      → have < totalN (c .crc) there mac block dat
-      → refused 18 (totalN (c .crc) there mac block dat ∷ have ∷ []) ≡ withCtrl c (testOf c there due mac block dat have)
+  pub refused-18 : differ (z .hasBlock) (c .block) ≡ false → z .mac ≡ macLen (z .macDue) → z .blockData ≤ 253 → totalLen (c .crc) z ≤ 65535
+      → z .room < totalLen (c .crc) z
+      → refused 18 (totalLen (c .crc) z ∷ z .room ∷ []) ≡ withCtrl c (testOf c z)
   unfolding testOf refuseIf withCtrl andThen
   refused-18 d m s h r = rw (le-ltb _ _ (encoded-sqn c b e), d, eq-eqb _ _ m, le-ltb _ _ s, le-ltb _ _ h, lt-ltb _ _ r)
 
-  pub all-passed : differ there (c .block) ≡ false → mac ≡ macLen due → block ≤ 253 → totalN (c .crc) there mac block dat ≤ 65535
-      → totalN (c .crc) there mac block dat ≤ have
-      → given (totalN (c .crc) there mac block dat, b) ≡ withCtrl c (testOf c there due mac block dat have)
+  pub all-passed : differ (z .hasBlock) (c .block) ≡ false → z .mac ≡ macLen (z .macDue) → z .blockData ≤ 253 → totalLen (c .crc) z ≤ 65535
+      → totalLen (c .crc) z ≤ z .room
+      → given (totalLen (c .crc) z, b) ≡ withCtrl c (testOf c z)
   unfolding testOf refuseIf withCtrl andThen
   all-passed d m s h r = rw (le-ltb _ _ (encoded-sqn c b e), d, eq-eqb _ _ m, le-ltb _ _ s, le-ltb _ _ h, le-ltb _ _ r, encoded-byte c b e)
 

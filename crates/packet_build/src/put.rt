@@ -1,14 +1,19 @@
 // The parts of a frame, each copied to its place.
 ghost use mathlib.Core.Path.{_≡_};
-ghost use Prim.Native.Nat.{_+_, _≤_, _<_};
+ghost use Prim.Native.Nat.{_+_, _≤_};
 ghost use lib.ListN.{length, take};
 ghost use Rattle.laws.specs.Over.{write};
+ghost use Rattle.packet_head.specs.Numbers.{«HEADER_LEN», «MAX_SCB_DATA», «CODE_LEN», «MAX_LEN»};
 ghost use Rattle.packet_head.specs.Header.{control, ctrlByte};
 ghost use Rattle.packet_head.specs.Trailer.{trailerLen};
 ghost use Rattle.packet_build.specs.Build.{scbGiven, blockN, blockBytes, bodyBytes, macBytes, tailBytes};
 use super::codec::BuildBlock;
 use super::codec::GivenMac;
 use super::codec::PacketBuilder;
+use packet_head::HEADER_LEN;
+use packet_head::SCB_DATA_AT;
+use packet_head::SCB_HEADER_LEN;
+use packet_head::SOM;
 
 // Copies src into out from at on, and answers the place after it.
 fn copy_in(out: &mut [u8], at: usize, src: &[u8]) -> usize
@@ -24,18 +29,18 @@ fn copy_in(out: &mut [u8], at: usize, src: &[u8]) -> usize
     at + i
 }
 
-// The block at 5, if there is one; the place after it.
+// The block behind the head, if there is one; the place after it.
 fn put_block(out: &mut [u8], block: BuildBlock, bytes: &[u8]) -> usize
-    requires { ⌜ (blockN (scbGiven block (now bytes)) ≤ 253) × (5 + length (blockBytes (scbGiven block (now bytes))) ≤ length (now out)) ⌝ }
-    ensures { λ r. ⌜ r ≡ 5 + length (blockBytes (scbGiven block (now (bytes .entry)))) ⌝ }
-    ensures { λ _. ⌜ now (out .exit) ≡ write (now (out .entry)) 5 (blockBytes (scbGiven block (now (bytes .entry)))) ⌝ }
+    requires { ⌜ (blockN (scbGiven block (now bytes)) ≤ «MAX_SCB_DATA») × («HEADER_LEN» + length (blockBytes (scbGiven block (now bytes))) ≤ length (now out)) ⌝ }
+    ensures { λ r. ⌜ r ≡ «HEADER_LEN» + length (blockBytes (scbGiven block (now (bytes .entry)))) ⌝ }
+    ensures { λ _. ⌜ now (out .exit) ≡ write (now (out .entry)) «HEADER_LEN» (blockBytes (scbGiven block (now (bytes .entry)))) ⌝ }
 {
     match block {
-        BuildBlock::Absent => 5,
+        BuildBlock::Absent => HEADER_LEN,
         BuildBlock::Of(ty) => {
-            let head = [(bytes.len() + 2) as u8, ty.as_byte()];
-            copy_in(out, 5, &head);
-            copy_in(out, 7, bytes)
+            let head = [(bytes.len() + SCB_HEADER_LEN) as u8, ty.as_byte()];
+            copy_in(out, HEADER_LEN, &head);
+            copy_in(out, SCB_DATA_AT, bytes)
         }
     }
 }
@@ -49,12 +54,12 @@ pub(crate) fn put_body(
     data: &[u8],
     total: usize,
 ) -> usize
-    requires { ⌜ (ctrl ≡ ctrlByte (control (w .ctrl))) × (blockN (scbGiven (w .block) (now bytes)) ≤ 253) × (total < 65536) × (6 + length (blockBytes (scbGiven (w .block) (now bytes))) + length (now «data») ≤ length (now out)) ⌝ }
-    ensures { λ r. ⌜ r ≡ 6 + length (blockBytes (scbGiven (w .block) (now (bytes .entry)))) + length (now («data» .entry)) ⌝ }
+    requires { ⌜ (ctrl ≡ ctrlByte (control (w .ctrl))) × (blockN (scbGiven (w .block) (now bytes)) ≤ «MAX_SCB_DATA») × (total ≤ «MAX_LEN») × («HEADER_LEN» + «CODE_LEN» + length (blockBytes (scbGiven (w .block) (now bytes))) + length (now «data») ≤ length (now out)) ⌝ }
+    ensures { λ r. ⌜ r ≡ «HEADER_LEN» + «CODE_LEN» + length (blockBytes (scbGiven (w .block) (now (bytes .entry)))) + length (now («data» .entry)) ⌝ }
     ensures { λ _. ⌜ now (out .exit) ≡ write (now (out .entry)) 0 (bodyBytes (w .addr .0) (control (w .ctrl)) (scbGiven (w .block) (now (bytes .entry))) (w .code) (now («data» .entry)) total) ⌝ }
 {
     let head = [
-        0x53,
+        SOM,
         w.addr.as_byte(),
         (total % 256) as u8,
         (total / 256) as u8,

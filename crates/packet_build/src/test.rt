@@ -3,13 +3,20 @@ ghost use mathlib.Core.Path.{_≡_};
 ghost use mathlib.Core.Bool.{cond};
 ghost use Prim.Native.Nat.{_≤_, _<_, _^_};
 ghost use lib.ListN.{length};
+ghost use Rattle.packet_head.specs.Numbers.{«MAC_LEN»};
 ghost use Rattle.packet_head.specs.Header.{control};
-ghost use Rattle.packet_build.specs.Build.{scbGiven, differ, testOf, partsTest};
-ghost use Rattle.packet_build.specs.Tested.{tested, withCtrl};
+ghost use Rattle.packet_build.specs.Build.{partsGiven, differ, testOf, sizesOf};
+ghost use Rattle.packet_build.specs.declared.codec.GivenMac.{GivenMac};
+ghost use Rattle.packet_build.specs.Tested.{sizes, tested, withCtrl};
 use super::codec::BuildBlock;
 use super::codec::PacketBuilder;
 use packet_head::ControlByte;
 use packet_head::EncodedAnswer;
+use packet_head::HEAD_AND_CODE_LEN;
+use packet_head::MAC_LEN;
+use packet_head::MAX_LEN;
+use packet_head::MAX_SCB_DATA;
+use packet_head::SCB_HEADER_LEN;
 use packet_head::trailer_len;
 use refusal::Refusal;
 
@@ -32,41 +39,51 @@ fn if_on(on: bool, n: usize) -> usize
     if on { n } else { 0 }
 }
 
-// The tests in the paper's order: mac, block and body are the lengths of the MAC, the block's data and the data, have that of the buffer.
-fn test(
-    ctrl: ControlByte,
-    there: bool,
-    due: bool,
+// Whether there is a block and whether a MAC is due; how many bytes of MAC, of the block's data, of data, and of room in the buffer.
+struct Sizes {
+    has_block: bool,
+    mac_due: bool,
     mac: usize,
-    block: usize,
-    body: usize,
-    have: usize,
-) -> Tested
-    requires { ⌜ (block < 2 ^ 63) × (body < 2 ^ 63) × (mac ≤ 4) ⌝ }
-    ensures { λ r. ⌜ tested r ≡ withCtrl (control ctrl) (testOf (control ctrl) there due mac block body have) ⌝ }
+    block_data: usize,
+    data: usize,
+    room: usize,
+}
+
+// The tests in the paper's order.
+fn test(ctrl: ControlByte, z: Sizes) -> Tested
+    requires { ⌜ (z .«block_data» < 2 ^ 63) × (z .«data» < 2 ^ 63) × (z .mac ≤ «MAC_LEN») ⌝ }
+    ensures { λ r. ⌜ tested r ≡ withCtrl (control ctrl) (testOf (control ctrl) (sizes z)) ⌝ }
 {
     let byte = match ctrl.encode() {
         EncodedAnswer::Byte(b) => b,
         EncodedAnswer::Refused(e) => return Tested::Refused(e),
     };
-    if differ(there, ctrl.block) {
+    if differ(z.has_block, ctrl.block) {
         return Tested::Refused(Refusal::BadControlByte(byte));
     }
-    if mac != if_on(due, 4) {
+    if z.mac != if_on(z.mac_due, MAC_LEN) {
         return Tested::Refused(Refusal::BadMac);
     }
-    if 253 < block {
-        return Tested::Refused(Refusal::BlockTooLong(block));
+    if MAX_SCB_DATA < z.block_data {
+        return Tested::Refused(Refusal::BlockTooLong(z.block_data));
     }
-    let total = 6 + if_on(there, 2) + block + body + mac + trailer_len(ctrl.crc);
-    if 65535 < total {
+    let total = HEAD_AND_CODE_LEN
+        + if_on(z.has_block, SCB_HEADER_LEN)
+        + z.block_data
+        + z.data
+        + z.mac
+        + trailer_len(ctrl.crc);
+    if MAX_LEN < total {
         return Tested::Refused(Refusal::BufferOverflow {
             need: total,
-            have: 65535,
+            have: MAX_LEN,
         });
     }
-    if have < total {
-        return Tested::Refused(Refusal::NoRoom { need: total, have });
+    if z.room < total {
+        return Tested::Refused(Refusal::NoRoom {
+            need: total,
+            have: z.room,
+        });
     }
     Tested::Total(total, byte)
 }
@@ -79,20 +96,32 @@ pub(crate) fn test_parts(
     mac: usize,
     have: usize,
 ) -> Tested
-    requires { ⌜ mac ≤ 4 ⌝ }
-    ensures { λ r. ⌜ tested r ≡ withCtrl (control (w .ctrl)) (partsTest (control (w .ctrl)) (scbGiven (w .block) (now (block .entry))) mac (length (now («data» .entry))) have) ⌝ }
+    requires { ⌜ mac ≤ «MAC_LEN» ⌝ }
+    ensures { λ r. ⌜ tested r ≡ withCtrl (control (w .ctrl)) (testOf (control (w .ctrl)) (sizesOf (partsGiven w (now (block .entry)) (now («data» .entry)) GivenMac.Absent) mac have)) ⌝ }
 {
     let kind = w.block;
     match kind {
-        BuildBlock::Absent => test(w.ctrl, false, false, mac, 0, data.len(), have),
+        BuildBlock::Absent => test(
+            w.ctrl,
+            Sizes {
+                has_block: false,
+                mac_due: false,
+                mac,
+                block_data: 0,
+                data: data.len(),
+                room: have,
+            },
+        ),
         BuildBlock::Of(ty) => test(
             w.ctrl,
-            true,
-            ty.has_mac(),
-            mac,
-            block.len(),
-            data.len(),
-            have,
+            Sizes {
+                has_block: true,
+                mac_due: ty.has_mac(),
+                mac,
+                block_data: block.len(),
+                data: data.len(),
+                room: have,
+            },
         ),
     }
 }

@@ -7,6 +7,7 @@ use lib.Dec.{ltb, leb}
 use lib.ListN.{length, getD}
 use Rattle.laws.specs.Answer.{Answer, Answer.given, andThen, refuseIf}
 use Rattle.refusal.specs.Paper.{refusalOf}
+use Rattle.packet_head.specs.Numbers.{«SCB_HEADER_LEN»}
 use Rattle.packet_head.specs.declared.scb.ScsType.{ScsType}
 use Rattle.packet_head.specs.declared.scb.ScsType.the-variants.{Scs11, Scs12, Scs13, Scs14, Scs15, Scs16, Scs17, Scs18}
 use Rattle.packet_head.specs.declared.scb.ScsAnswer.{ScsAnswer}
@@ -37,10 +38,10 @@ BlockRead = ℕ × ℕ
 -- fewer than two bytes; its own length below 2: refusal 5, with the type byte; longer than what is there, counted from its first byte; its type
 unfoldable pub scbOf : List ℕ → Answer BlockRead
 scbOf b =
-    refuseIf (ltb (length b) 2) 1 (length b ∷ 2 ∷ [])
-    (refuseIf (ltb (getD b 0 0) 2) 5 (getD b 1 0 ∷ [])
+    refuseIf (ltb (length b) «SCB_HEADER_LEN») 1 (length b ∷ «SCB_HEADER_LEN» ∷ [])
+    (refuseIf (ltb (getD b 0 0) «SCB_HEADER_LEN») 5 (getD b 1 0 ∷ [])
     (refuseIf (ltb (length b) (getD b 0 0)) 1 (length b ∷ getD b 0 0 ∷ [])
-    (andThen (scsOf (getD b 1 0)) (λ ty. given (ty, getD b 0 0 - 2)))))
+    (andThen (scsOf (getD b 1 0)) (λ ty. given (ty, getD b 0 0 - «SCB_HEADER_LEN»)))))
 
 -- ---- the code's kinds, as the paper has them
 

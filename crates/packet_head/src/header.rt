@@ -3,7 +3,11 @@ ghost use mathlib.Core.Path.{_≡_};
 ghost use mathlib.Core.Bool.{cond};
 ghost use Prim.Native.Nat.{_%_, _≤_};
 ghost use lib.Dec.{leb, eqb};
+ghost use Rattle.packet_head.specs.Numbers.{«BROADCAST_ADDR», «REPLY_FLAG»};
 ghost use Rattle.packet_head.specs.Header.{pdOf, replyOf, addressAnswer, sqnOf, nextOf, sqnAnswer, control, controlOf, controlAnswer, encodeOf, encodedAnswer};
+use super::numbers::BROADCAST_ADDR;
+use super::numbers::MAX_SQN;
+use super::numbers::REPLY_FLAG;
 use refusal::Refusal;
 
 // The address byte of a frame, with the reply flag.
@@ -16,10 +20,10 @@ pub enum AddressAnswer {
 
 impl Address {
     // Every reader takes a frame with this address for its own.
-    pub const BROADCAST: Self = Self(0x7F);
+    pub const BROADCAST: Self = Self(BROADCAST_ADDR);
 
     // Set in what a reader sends.
-    pub const REPLY_FLAG: u8 = 0x80;
+    pub const REPLY_FLAG: u8 = REPLY_FLAG;
 
     // Any byte, as it stands in a frame.
     pub fn from_raw(byte: u8) -> Self
@@ -32,7 +36,7 @@ impl Address {
     pub fn pd(addr: u8) -> AddressAnswer
         ensures { λ r. ⌜ addressAnswer r ≡ pdOf addr ⌝ }
     {
-        if addr > 0x7F {
+        if addr > BROADCAST_ADDR {
             return AddressAnswer::Refused(Refusal::BadAddress(addr));
         }
         AddressAnswer::Good(Self(addr))
@@ -42,7 +46,7 @@ impl Address {
     pub fn reply(addr: u8) -> AddressAnswer
         ensures { λ r. ⌜ addressAnswer r ≡ replyOf addr ⌝ }
     {
-        if addr > 0x7F {
+        if addr > BROADCAST_ADDR {
             return AddressAnswer::Refused(Refusal::BadAddress(addr));
         }
         AddressAnswer::Good(Self(addr + Self::REPLY_FLAG))
@@ -56,19 +60,19 @@ impl Address {
 
     // Without the reply flag.
     pub fn pd_addr(self) -> u8
-        ensures { λ r. ⌜ r ≡ self .0 % 128 ⌝ }
+        ensures { λ r. ⌜ r ≡ self .0 % «REPLY_FLAG» ⌝ }
     {
         self.0 % Self::REPLY_FLAG
     }
 
     pub fn is_reply(self) -> bool
-        ensures { λ r. ⌜ r ≡ leb 128 (self .0) ⌝ }
+        ensures { λ r. ⌜ r ≡ leb «REPLY_FLAG» (self .0) ⌝ }
     {
         Self::REPLY_FLAG <= self.0
     }
 
     pub fn is_broadcast(self) -> bool
-        ensures { λ r. ⌜ r ≡ eqb (self .0 % 128) 127 ⌝ }
+        ensures { λ r. ⌜ r ≡ eqb (self .0 % «REPLY_FLAG») «BROADCAST_ADDR» ⌝ }
     {
         self.pd_addr() == Self::BROADCAST.0
     }
@@ -89,7 +93,7 @@ impl Sqn {
     pub fn new(n: u8) -> SqnAnswer
         ensures { λ r. ⌜ sqnAnswer r ≡ sqnOf n ⌝ }
     {
-        if n > 3 {
+        if n > MAX_SQN {
             return SqnAnswer::Refused(Refusal::BadSqn(n));
         }
         SqnAnswer::Good(Self(n))
@@ -170,7 +174,7 @@ impl ControlByte {
         ensures { λ r. ⌜ encodedAnswer r ≡ encodeOf (control self) ⌝ }
     {
         let n = self.sqn.0;
-        if 3 < n {
+        if MAX_SQN < n {
             return EncodedAnswer::Refused(Refusal::BadSqn(n));
         }
         EncodedAnswer::Byte(n + flag(self.crc, Self::USE_CRC) + flag(self.block, Self::HAS_SCB))

@@ -1,5 +1,6 @@
 // The small kinds of a frame: addresses, sequence numbers, the control byte, the security block and the trailer's kind.
 mod header;
+mod numbers;
 mod scb;
 mod trailer;
 
@@ -10,6 +11,20 @@ pub use header::ControlByte;
 pub use header::EncodedAnswer;
 pub use header::Sqn;
 pub use header::SqnAnswer;
+pub use numbers::BROADCAST_ADDR;
+pub use numbers::CHECKSUM_LEN;
+pub use numbers::CODE_LEN;
+pub use numbers::CRC_LEN;
+pub use numbers::HEAD_AND_CODE_LEN;
+pub use numbers::HEADER_LEN;
+pub use numbers::MAC_LEN;
+pub use numbers::MAX_LEN;
+pub use numbers::MAX_SCB_DATA;
+pub use numbers::MAX_SQN;
+pub use numbers::REPLY_FLAG;
+pub use numbers::SCB_DATA_AT;
+pub use numbers::SCB_HEADER_LEN;
+pub use numbers::SOM;
 pub use scb::Scb;
 pub use scb::ScbAnswer;
 pub use scb::ScsAnswer;

@@ -1,7 +1,9 @@
 // The security block that may follow the control byte.
 ghost use mathlib.Core.Path.{_≡_};
 ghost use Prim.Native.Nat.{_+_};
+ghost use Rattle.packet_head.specs.Numbers.{«SCB_HEADER_LEN»};
 ghost use Rattle.packet_head.specs.Block.{typeOf, hasMac, isEncrypted, isHandshake, scsOf, scsAnswer, scbOf, scbAnswer};
+use super::numbers::SCB_HEADER_LEN;
 use refusal::Refusal;
 
 // The type of a security block, 11 to 18.
@@ -87,19 +89,19 @@ pub enum ScbAnswer {
 impl Scb {
     // The block's length on the wire, its own two bytes counted.
     pub fn wire_len(self) -> usize
-        ensures { λ r. ⌜ r ≡ self .«data_len» + 2 ⌝ }
+        ensures { λ r. ⌜ r ≡ self .«data_len» + «SCB_HEADER_LEN» ⌝ }
     {
-        (self.data_len as usize) + 2
+        (self.data_len as usize) + SCB_HEADER_LEN
     }
 
     // Reads the block at the start of buf: the part of a frame from its byte 5 on.
     pub fn parse(buf: &[u8]) -> ScbAnswer
         ensures { λ r. ⌜ scbAnswer r ≡ scbOf (now (buf .entry)) ⌝ }
     {
-        if buf.len() < 2 {
+        if buf.len() < SCB_HEADER_LEN {
             return ScbAnswer::Refused(Refusal::Truncated {
                 have: buf.len(),
-                need: 2,
+                need: SCB_HEADER_LEN,
             });
         }
         let len = buf[0];

@@ -2,6 +2,8 @@
 ghost use mathlib.Core.Path.{_≡_};
 ghost use Prim.Native.Nat.{_≤_};
 ghost use Rattle.packet_head.specs.Trailer.{tail, isCrc, trailerLen};
+use super::numbers::CHECKSUM_LEN;
+use super::numbers::CRC_LEN;
 
 pub enum Trailer {
     Checksum(u8),
@@ -23,5 +25,5 @@ impl Trailer {
 pub fn trailer_len(crc: bool) -> usize
     ensures { λ r. ⌜ (r ≡ trailerLen crc) × (r ≤ 2) × (1 ≤ r) ⌝ }
 {
-    if crc { 2 } else { 1 }
+    if crc { CRC_LEN } else { CHECKSUM_LEN }
 }

@@ -13,7 +13,7 @@ use Rattle.laws.specs.Answer.{Answer.given}
 use Rattle.laws.proofs.Answers.{Holds, holds-refuse, holds-choose, holds-then, holds-given, holds-mono}
 use Rattle.packet_head.specs.Header.{Control, controlOf}
 use Rattle.packet_head.specs.Block.{hasMac}
-use Rattle.packet_parse.specs.Frame.{Head, Fields, BlockAt, BlockAt.noBlock, BlockAt.blockAt, lenOf, headOf, partsOf, frameOf, parseOf}
+use Rattle.packet_parse.specs.Frame.{Head, Fields, BlockAt, BlockAt.noBlock, BlockAt.blockAt, lenOf, headOf, restOf, frameOf, parseOf}
 
 -- whether a block stands in the frame
 abbrev pub standing : BlockAt → Bool
@@ -70,16 +70,16 @@ pub record Kept (f : List ℕ) (a : ℕ) (c : Control) (F : Fields) : Type 0 whe
   pub ctrl : F .ctrl ≡ c
   pub block : standing (F .block) ≡ c .block
 
-parts-kept : (f : List ℕ) (a : ℕ) (c : Control) (b : BlockAt) (at : ℕ) (mac : Bool) → standing b ≡ c .block → Holds (Kept f a c) (partsOf f a c b at mac)
-unfolding partsOf
-parts-kept f a c b at mac h = holds-refuse _ _ _ _ _ (λ _. holds-refuse _ _ _ _ _ (λ _. holds-then _ _ _ (λ t _. record { addr = refl; len = refl; ctrl = refl; block = h })))
+rest-kept : (f : List ℕ) (a : ℕ) (c : Control) (b : BlockAt) (at : ℕ) (mac : Bool) → standing b ≡ c .block → Holds (Kept f a c) (restOf f a c b at mac)
+unfolding restOf
+rest-kept f a c b at mac h = holds-refuse _ _ _ _ _ (λ _. holds-refuse _ _ _ _ _ (λ _. holds-then _ _ _ (λ t _. record { addr = refl; len = refl; ctrl = refl; block = h })))
 
 frame-kept : (f : List ℕ) (a : ℕ) (c : Control) → Holds (Kept f a c) (frameOf f a c)
 unfolding frameOf
 frame-kept f a c =
     holds-refuse _ _ _ _ _ (λ _. holds-choose _ _ _ _
-    (λ e. holds-then _ _ _ (λ b _. parts-kept f a c (blockAt (b .0) 7 (b .1)) (7 + b .1) (hasMac (b .0)) (sym e)))
-    (λ e. parts-kept f a c noBlock 5 false (sym e)))
+    (λ e. holds-then _ _ _ (λ b _. rest-kept f a c (blockAt (b .0) 7 (b .1)) (7 + b .1) (hasMac (b .0)) (sym e)))
+    (λ e. rest-kept f a c noBlock 5 false (sym e)))
 
 told : (s : List ℕ) → Holds (Told s) (parseOf s)
 unfolding parseOf

@@ -11,7 +11,7 @@ use Rattle.laws.proofs.Answers.{Holds, holds-refuse, holds-choose, holds-then, 
 use Rattle.packet_head.specs.Header.{Control}
 use Rattle.packet_head.specs.Block.{BlockRead, hasMac, scbOf}
 use Rattle.packet_head.proofs.Types.{between-above, type-bounds}
-use Rattle.packet_parse.specs.Frame.{Fields, BlockAt, BlockAt.noBlock, BlockAt.blockAt, MacAt, MacAt.noMac, MacAt.macFrom, typeIn, macAt, partsOf, frameOf, parseOf}
+use Rattle.packet_parse.specs.Frame.{Fields, BlockAt, BlockAt.noBlock, BlockAt.blockAt, MacAt, MacAt.noMac, MacAt.macFrom, typeIn, macAt, restOf, frameOf, parseOf}
 
 abbrev pub there : MacAt → Bool
 there noMac = false
@@ -29,9 +29,9 @@ there-at : (m : Bool) (at : ℕ) → there (macAt m at) ≡ m
 there-at true at = refl
 there-at false at = refl
 
-parts-due : (f : List ℕ) (a : ℕ) (c : Control) (b : BlockAt) (at : ℕ) → TypeKnown b → Holds Due (partsOf f a c b at (hasMac (typeIn b)))
-unfolding partsOf
-parts-due f a c b at k = holds-refuse _ _ _ _ _ (λ _. holds-refuse _ _ _ _ _ (λ _. holds-then _ _ _ (λ t _. (k, there-at (hasMac (typeIn b)) _))))
+rest-due : (f : List ℕ) (a : ℕ) (c : Control) (b : BlockAt) (at : ℕ) → TypeKnown b → Holds Due (restOf f a c b at (hasMac (typeIn b)))
+unfolding restOf
+rest-due f a c b at k = holds-refuse _ _ _ _ _ (λ _. holds-refuse _ _ _ _ _ (λ _. holds-then _ _ _ (λ t _. (k, there-at (hasMac (typeIn b)) _))))
 
 read-type-known : (b : List ℕ) → Holds (λ (r : BlockRead). (0x11 ≤ r .0) × (r .0 ≤ 0x18)) (scbOf b)
 unfolding scbOf
@@ -43,8 +43,8 @@ frame-due : (f : List ℕ) (a : ℕ) (c : Control) → Holds Due (frameOf f a c)
 unfolding frameOf
 frame-due f a c =
     holds-refuse _ _ _ _ _ (λ _. holds-choose _ _ _ _
-    (λ _. holds-then _ _ _ (λ b e. parts-due f a c (blockAt (b .0) 7 (b .1)) (7 + b .1) (holds-given _ (scbOf (drop 5 f)) b (read-type-known (drop 5 f)) e)))
-    (λ _. parts-due f a c noBlock 5 tt))
+    (λ _. holds-then _ _ _ (λ b e. rest-due f a c (blockAt (b .0) 7 (b .1)) (7 + b .1) (holds-given _ (scbOf (drop 5 f)) b (read-type-known (drop 5 f)) e)))
+    (λ _. rest-due f a c noBlock 5 tt))
 
 parse-due : (s : List ℕ) → Holds Due (parseOf s)
 unfolding parseOf

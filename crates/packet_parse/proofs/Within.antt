@@ -13,7 +13,7 @@ use Rattle.laws.proofs.Answers.{Holds, holds-refuse, holds-choose, holds-then, 
 use Rattle.packet_head.specs.Header.{Control}
 use Rattle.packet_head.specs.Block.{hasMac}
 use Rattle.packet_head.specs.Trailer.{Tail, macLen, trailerLen}
-use Rattle.packet_parse.specs.Frame.{Fields, BlockAt, BlockAt.noBlock, BlockAt.blockAt, MacAt, MacAt.noMac, MacAt.macFrom, macAt, fieldsOf, partsOf, frameOf, parseOf}
+use Rattle.packet_parse.specs.Frame.{Fields, BlockAt, BlockAt.noBlock, BlockAt.blockAt, MacAt, MacAt.noMac, MacAt.macFrom, macAt, fieldsOf, restOf, frameOf, parseOf}
 
 -- the block's data lies between the block's first two bytes and the code, which stands before the data
 abbrev pub BlockInside : BlockAt → ℕ → Type 0
@@ -42,9 +42,9 @@ mac-within : (mac : Bool) (n at t : ℕ) → 1 ≤ t → at + 1 + macLen mac + t
 mac-within true n at t h k = (omega arith, omega arith)
 mac-within false n at t h k = omega arith
 
-parts-inside : (f : List ℕ) (a : ℕ) (c : Control) (b : BlockAt) (at : ℕ) (mac : Bool) → 5 ≤ at → BlockInside b (at + 1) → Holds (Inside (length f)) (partsOf f a c b at mac)
-unfolding partsOf
-parts-inside f a c b at mac h5 hb =
+rest-inside : (f : List ℕ) (a : ℕ) (c : Control) (b : BlockAt) (at : ℕ) (mac : Bool) → 5 ≤ at → BlockInside b (at + 1) → Holds (Inside (length f)) (restOf f a c b at mac)
+unfolding restOf
+rest-inside f a c b at mac h5 hb =
     holds-refuse _ _ _ _ _ (λ _. holds-refuse _ _ _ _ _ (λ k. holds-then _ _ _ (λ t _. in-it t (ltb-false _ _ k))))
   where
     in-it : (t : Tail) → at + 1 + macLen mac + trailerLen (c .crc) ≤ length f → Inside (length f) (fieldsOf f a c b at mac t)
@@ -62,8 +62,8 @@ frame-inside : (f : List ℕ) (a : ℕ) (c : Control) → Holds (Inside (length 
 unfolding frameOf
 frame-inside f a c =
     holds-refuse _ _ _ _ _ (λ _. holds-choose _ _ _ _
-    (λ _. holds-then _ _ _ (λ b _. parts-inside f a c (blockAt (b .0) 7 (b .1)) (7 + b .1) (hasMac (b .0)) (omega arith) (omega arith, omega arith)))
-    (λ _. parts-inside f a c noBlock 5 false (omega arith) (omega arith)))
+    (λ _. holds-then _ _ _ (λ b _. rest-inside f a c (blockAt (b .0) 7 (b .1)) (7 + b .1) (hasMac (b .0)) (omega arith) (omega arith, omega arith)))
+    (λ _. rest-inside f a c noBlock 5 false (omega arith) (omega arith)))
 
 pub parse-inside : (s : List ℕ) → Holds (Inside (length s)) (parseOf s)
 unfolding parseOf

@@ -11,7 +11,7 @@ use Rattle.packet_head.specs.Header.{Control, controlOf}
 use Rattle.packet_head.specs.Block.{scsOf, scbOf}
 use Rattle.packet_head.specs.Trailer.{Tail, Tail.checksum, Tail.crc}
 use Rattle.packet_parse.specs.Trailer.{trailerOf}
-use Rattle.packet_parse.specs.Frame.{Fields, BlockAt, BlockAt.noBlock, BlockAt.blockAt, MacAt.noMac, headOf, partsOf, frameOf, parseOf}
+use Rattle.packet_parse.specs.Frame.{Fields, BlockAt, BlockAt.noBlock, BlockAt.blockAt, MacAt.noMac, headOf, restOf, frameOf, parseOf}
 
 -- a frame for address 5 with SQN 0, code 60, no data and no MAC
 pub plainFrame : Control → BlockAt → ℕ → Tail → ℕ → Answer Fields
@@ -63,5 +63,5 @@ answers =
     ∷ []
 
 pub worked : map parseOf frames ≡ answers
-unfolding plainFrame frames answers refuseIf choose andThen headOf parseOf frameOf partsOf controlOf scbOf scsOf trailerOf crcFrom crcByte crcBits crcBit reduce checksumOf sumOf
+unfolding plainFrame frames answers refuseIf choose andThen headOf parseOf frameOf restOf controlOf scbOf scsOf trailerOf crcFrom crcByte crcBits crcBit reduce checksumOf sumOf
 worked = refl

@@ -7,6 +7,7 @@ use lib.Dec.{ltb, eqb}
 use lib.ListN.{length, getD, take, drop}
 use Rattle.laws.specs.Answer.{Answer, Answer.given, andThen, refuseIf, choose}
 use Rattle.refusal.specs.Paper.{refusalOf}
+use Rattle.packet_head.specs.Numbers.{SOM, «HEADER_LEN», «SCB_DATA_AT», «CODE_LEN»}
 use Rattle.packet_head.specs.Header.{Control, control, controlOf}
 use Rattle.packet_head.specs.Block.{hasMac, scbOf, typeOf}
 use Rattle.packet_head.specs.Trailer.{Tail, tail, trailerLen, macLen}
@@ -32,8 +33,8 @@ lenOf s = getD s 2 0 + 256 * getD s 3 0
 -- fewer than 5 bytes; the first byte; CTRL
 unfoldable pub headOf : List ℕ → Answer Head
 headOf s =
-    refuseIf (ltb (length s) 5) 1 (length s ∷ 5 ∷ [])
-    (refuseIf (not (eqb (getD s 0 0) 0x53)) 2 (getD s 0 0 ∷ [])
+    refuseIf (ltb (length s) «HEADER_LEN») 1 (length s ∷ «HEADER_LEN» ∷ [])
+    (refuseIf (not (eqb (getD s 0 0) SOM)) 2 (getD s 0 0 ∷ [])
     (andThen (controlOf (getD s 4 0)) (λ ctrl. given (record { addr = getD s 1 0; len = lenOf s; ctrl = ctrl }))))
 
 -- ---- what a frame holds; each place is counted from the frame's first byte
@@ -85,8 +86,8 @@ fieldsOf f addr ctrl block at mac t =
       ctrl = ctrl;
       block = block;
       code = getD f at 0;
-      dataStart = at + 1;
-      dataLen = length f - (at + 1 + macLen mac + trailerLen (ctrl .crc));
+      dataStart = at + «CODE_LEN»;
+      dataLen = length f - (at + «CODE_LEN» + macLen mac + trailerLen (ctrl .crc));
       mac = macAt mac (length f - (macLen mac + trailerLen (ctrl .crc)));
       trailer = t;
       len = length f;
@@ -95,19 +96,19 @@ fieldsOf f addr ctrl block at mac t =
 -- ---- the tests of a frame f that is as long as its LEN says
 
 -- no room for code and trailer; no room for the MAC; the trailer
-unfoldable pub partsOf : List ℕ → ℕ → Control → BlockAt → ℕ → Bool → Answer Fields
-partsOf f addr ctrl block at mac =
-    refuseIf (ltb (length f) (at + 1 + trailerLen (ctrl .crc))) 4 (length f ∷ length f ∷ [])
-    (refuseIf (ltb (length f) (at + 1 + macLen mac + trailerLen (ctrl .crc))) 4 (length f ∷ length f ∷ [])
+unfoldable pub restOf : List ℕ → ℕ → Control → BlockAt → ℕ → Bool → Answer Fields
+restOf f addr ctrl block at mac =
+    refuseIf (ltb (length f) (at + «CODE_LEN» + trailerLen (ctrl .crc))) 4 (length f ∷ length f ∷ [])
+    (refuseIf (ltb (length f) (at + «CODE_LEN» + macLen mac + trailerLen (ctrl .crc))) 4 (length f ∷ length f ∷ [])
     (andThen (trailerOf f (ctrl .crc)) (λ t. given (fieldsOf f addr ctrl block at mac t))))
 
 -- LEN below 7 with a checksum or 8 with a CRC; the block, if there is one; the rest
 unfoldable pub frameOf : List ℕ → ℕ → Control → Answer Fields
 frameOf f addr ctrl =
-    refuseIf (ltb (length f) (6 + trailerLen (ctrl .crc))) 4 (length f ∷ length f ∷ [])
+    refuseIf (ltb (length f) («HEADER_LEN» + «CODE_LEN» + trailerLen (ctrl .crc))) 4 (length f ∷ length f ∷ [])
     (choose (ctrl .block)
-    (andThen (scbOf (drop 5 f)) (λ b. partsOf f addr ctrl (blockAt (b .0) 7 (b .1)) (7 + b .1) (hasMac (b .0))))
-    (partsOf f addr ctrl noBlock 5 false))
+    (andThen (scbOf (drop «HEADER_LEN» f)) (λ b. restOf f addr ctrl (blockAt (b .0) «SCB_DATA_AT» (b .1)) («SCB_DATA_AT» + b .1) (hasMac (b .0))))
+    (restOf f addr ctrl noBlock «HEADER_LEN» false))
 
 -- the head; fewer bytes than LEN; the first LEN bytes
 unfoldable pub parseOf : List ℕ → Answer Fields

@@ -9,22 +9,23 @@ use Rattle.laws.specs.Answer.{Answer, Answer.given, refuseIf}
 use Rattle.packet_sums.specs.Checksum.{checksumOf}
 use Rattle.packet_sums.specs.Crc.{crcOf}
 use Rattle.refusal.specs.Paper.{refusalOf}
+use Rattle.packet_head.specs.Numbers.{«CHECKSUM_LEN», «CRC_LEN»}
 use Rattle.packet_head.specs.Trailer.{Tail, Tail.checksum, Tail.crc, tail}
 use Rattle.packet_parse.specs.declared.trailing.TrailerAnswer.{TrailerAnswer}
 
 -- what the last two bytes say, and what the bytes before them want
 abbrev pub crcGot : List ℕ → ℕ
-crcGot f = getD f (length f - 2) 0 + 256 * getD f (length f - 1) 0
+crcGot f = getD f (length f - «CRC_LEN») 0 + 256 * getD f (length f - 1) 0
 
 abbrev pub crcWant : List ℕ → ℕ
-crcWant f = crcOf (take (length f - 2) f)
+crcWant f = crcOf (take (length f - «CRC_LEN») f)
 
 -- the same of the last byte
 abbrev pub sumGot : List ℕ → ℕ
-sumGot f = getD f (length f - 1) 0
+sumGot f = getD f (length f - «CHECKSUM_LEN») 0
 
 abbrev pub sumWant : List ℕ → ℕ
-sumWant f = checksumOf (take (length f - 1) f)
+sumWant f = checksumOf (take (length f - «CHECKSUM_LEN») f)
 
 -- 7 for a CRC and 8 for a checksum: got, want
 unfoldable pub trailerOf : List ℕ → Bool → Answer Tail

@@ -4,14 +4,20 @@ ghost use mathlib.Core.List.{[], _∷_};
 ghost use Prim.Native.Nat.{_≤_};
 ghost use Rattle.laws.specs.Answer.{Answer.refused};
 ghost use Rattle.packet_head.specs.Header.{control};
+ghost use Rattle.packet_head.specs.Numbers.{«MAC_LEN»};
 ghost use Rattle.packet_head.specs.Trailer.{macLen};
-ghost use Rattle.packet_parse.specs.Frame.{macPlace, macStart, macAt, blockPlace, headOf, headAnswer, partsOf, frameOf, parseOf, parsed};
+ghost use Rattle.packet_parse.specs.Frame.{macPlace, macStart, macAt, blockPlace, headOf, headAnswer, restOf, frameOf, parseOf, parsed};
 use super::trailing::TrailerAnswer;
 use super::trailing::check;
 use super::trailing::word;
 use packet_head::Address;
 use packet_head::ControlAnswer;
 use packet_head::ControlByte;
+use packet_head::HEAD_AND_CODE_LEN;
+use packet_head::HEADER_LEN;
+use packet_head::MAC_LEN;
+use packet_head::SCB_DATA_AT;
+use packet_head::SOM;
 use packet_head::Scb;
 use packet_head::ScbAnswer;
 use packet_head::ScsType;
@@ -65,9 +71,9 @@ pub enum Parsed {
 }
 
 fn mac_len(mac: bool) -> usize
-    ensures { λ r. ⌜ (r ≡ macLen mac) × (r ≤ 4) ⌝ }
+    ensures { λ r. ⌜ (r ≡ macLen mac) × (r ≤ «MAC_LEN») ⌝ }
 {
-    if mac { 4 } else { 0 }
+    if mac { MAC_LEN } else { 0 }
 }
 
 fn mac_part(mac: bool, at: usize) -> MacPart
@@ -100,7 +106,7 @@ fn bad_length(n: usize) -> Parsed
 }
 
 // What follows the block, or the control byte where there is none. The code is at `at`.
-fn parse_parts(
+fn parse_rest(
     f: &[u8],
     addr: Address,
     ctrl: ControlByte,
@@ -109,7 +115,7 @@ fn parse_parts(
     mac: bool,
 ) -> Parsed
     requires { ⌜ at ≤ 65535 ⌝ }
-    ensures { λ r. ⌜ parsed r ≡ partsOf (now (f .entry)) (addr .0) (control ctrl) (blockPlace block) at mac ⌝ }
+    ensures { λ r. ⌜ parsed r ≡ restOf (now (f .entry)) (addr .0) (control ctrl) (blockPlace block) at mac ⌝ }
 {
     let n = f.len();
     let t = trailer_len(ctrl.crc);
@@ -141,21 +147,25 @@ fn parse_frame(f: &[u8], addr: Address, ctrl: ControlByte) -> Parsed
     ensures { λ r. ⌜ parsed r ≡ frameOf (now (f .entry)) (addr .0) (control ctrl) ⌝ }
 {
     let t = trailer_len(ctrl.crc);
-    if f.len() < 6 + t {
+    if f.len() < HEAD_AND_CODE_LEN + t {
         return bad_length(f.len());
     }
     if ctrl.block {
-        match Scb::parse(&f[5..]) {
+        match Scb::parse(&f[HEADER_LEN..]) {
             ScbAnswer::Good(b) => {
                 let len = b.data_len as usize;
                 let ty = b.ty;
-                let block = BlockPart::At { ty, start: 7, len };
-                parse_parts(f, addr, ctrl, block, 7 + len, ty.has_mac())
+                let block = BlockPart::At {
+                    ty,
+                    start: SCB_DATA_AT,
+                    len,
+                };
+                parse_rest(f, addr, ctrl, block, SCB_DATA_AT + len, ty.has_mac())
             }
             ScbAnswer::Refused(e) => Parsed::Refused(e),
         }
     } else {
-        parse_parts(f, addr, ctrl, BlockPart::Absent, 5, false)
+        parse_rest(f, addr, ctrl, BlockPart::Absent, HEADER_LEN, false)
     }
 }
 
@@ -163,13 +173,13 @@ fn parse_frame(f: &[u8], addr: Address, ctrl: ControlByte) -> Parsed
 pub fn head(buf: &[u8]) -> HeadAnswer
     ensures { λ r. ⌜ headAnswer r ≡ headOf (now (buf .entry)) ⌝ }
 {
-    if buf.len() < 5 {
+    if buf.len() < HEADER_LEN {
         return HeadAnswer::Refused(Refusal::Truncated {
             have: buf.len(),
-            need: 5,
+            need: HEADER_LEN,
         });
     }
-    if buf[0] != 0x53 {
+    if buf[0] != SOM {
         return HeadAnswer::Refused(Refusal::BadSom(buf[0]));
     }
     match ControlByte::decode(buf[4]) {

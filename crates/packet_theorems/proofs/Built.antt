@@ -17,9 +17,9 @@ use Rattle.packet_head.specs.Block.{hasMac, scsOf, scbOf}
 use Rattle.packet_head.specs.Trailer.{Tail, Tail.checksum, Tail.crc, trailerLen, macLen}
 use Rattle.laws.proofs.Answers.{holds-given, choose-true, choose-false}
 use Rattle.packet_parse.specs.Trailer.{crcGot, sumGot, trailerOf}
-use Rattle.packet_parse.specs.Frame.{Fields, BlockAt, BlockAt.noBlock, BlockAt.blockAt, MacAt, macAt, lenOf, headOf, fieldsOf, partsOf, frameOf, parseOf}
+use Rattle.packet_parse.specs.Frame.{Fields, BlockAt, BlockAt.noBlock, BlockAt.blockAt, MacAt, macAt, lenOf, headOf, fieldsOf, restOf, frameOf, parseOf}
 use Rattle.packet_build.specs.Build as made
-use Rattle.packet_build.specs.Build.{Parts, FrameBlock, FrameBlock.noScb, FrameBlock.scb, blockBytes, tailBytes, frameBytes, signedBytes, bodyBytes, buildOf}
+use Rattle.packet_build.specs.Build.{FrameParts, FrameBlock, FrameBlock.noScb, FrameBlock.scb, blockBytes, tailBytes, frameBytes, coveredBytes, bodyBytes, sizesOf, buildOf}
 use Rattle.packet_build.proofs.Sizes.{Fine, Whole, whole, whole-length, body-length, bytes-length, tail-length}
 
 -- ---- the control byte
@@ -74,10 +74,10 @@ trailer-read-back x false =
 
 -- ---- from the code on
 
-parts-back : (x : List ℕ) (a : ℕ) (c : Control) (k : BlockAt) (at : ℕ) (mac : Bool) → at + 1 + macLen mac ≤ length x
-    → partsOf (x ++ tailBytes (c .crc) x) a c k at mac ≡ given (fieldsOf (x ++ tailBytes (c .crc) x) a c k at mac (tailOf (c .crc) x))
-unfolding partsOf refuseIf andThen
-parts-back x a c k at mac h =
+rest-back : (x : List ℕ) (a : ℕ) (c : Control) (k : BlockAt) (at : ℕ) (mac : Bool) → at + 1 + macLen mac ≤ length x
+    → restOf (x ++ tailBytes (c .crc) x) a c k at mac ≡ given (fieldsOf (x ++ tailBytes (c .crc) x) a c k at mac (tailOf (c .crc) x))
+unfolding restOf refuseIf andThen
+rest-back x a c k at mac h =
     let f = x ++ tailBytes (c .crc) x in
     let l : length f ≡ length x + trailerLen (c .crc) = length-append x (tailBytes (c .crc) x) ∙ ap (λ (n : ℕ). length x + n) (tail-length (c .crc) x) in
     let h₁ : at + 1 + trailerLen (c .crc) ≤ length f = omega arith in
@@ -105,7 +105,7 @@ frame-none x a c e h =
     let f = x ++ tailBytes (c .crc) x in
     let l : length f ≡ length x + trailerLen (c .crc) = length-append x (tailBytes (c .crc) x) ∙ ap (λ (n : ℕ). length x + n) (tail-length (c .crc) x) in
     let h₁ : 6 + trailerLen (c .crc) ≤ length f = omega arith in
-    rw (le-ltb _ _ h₁) (choose-false _ _ _ e ∙ parts-back x a c noBlock 5 false (omega arith))
+    rw (le-ltb _ _ h₁) (choose-false _ _ _ e ∙ rest-back x a c noBlock 5 false (omega arith))
 
 frame-block : (x l r : List ℕ) (ty : ℕ) (a : ℕ) (c : Control) → c .block ≡ true → scsOf ty ≡ given ty
     → drop 5 (x ++ tailBytes (c .crc) x) ≡ (length l + 2) ∷ ty ∷ (l ++ r) → 8 + length l + macLen (hasMac ty) ≤ length x
@@ -116,7 +116,7 @@ frame-block x l r ty a c e t d h =
     let n : length f ≡ length x + trailerLen (c .crc) = length-append x (tailBytes (c .crc) x) ∙ ap (λ (n : ℕ). length x + n) (tail-length (c .crc) x) in
     let h₁ : 6 + trailerLen (c .crc) ≤ length f = omega arith in
     let k : scbOf (drop 5 f) ≡ given (ty, length l) = ap scbOf d ∙ block-read-back l r ty t in
-    rw (le-ltb _ _ h₁, k) (choose-true _ _ _ e ∙ parts-back x a c (blockAt ty 7 (length l)) (7 + length l) (hasMac ty) (omega arith))
+    rw (le-ltb _ _ h₁, k) (choose-true _ _ _ e ∙ rest-back x a c (blockAt ty 7 (length l)) (7 + length l) (hasMac ty) (omega arith))
 
 -- ---- the header
 
@@ -125,7 +125,7 @@ parse-head : (s f : List ℕ) (a : ℕ) (c : Control) → getD s 0 0 ≡ 0x53 �
 unfolding parseOf headOf refuseIf andThen
 parse-head s f a c e₀ e₁ e₄ h l t = rw (le-ltb _ _ h, eq-eqb _ _ e₀, e₄, e₁, le-ltb _ _ l, t)
 
-frame-of : (p : Parts) (n : ℕ) (rest : List ℕ) → length (frameBytes p n) ≡ n → p .ctrl .sqn ≤ 3 → parseOf (frameBytes p n ++ rest) ≡ frameOf (frameBytes p n) (p .addr) (p .ctrl)
+frame-of : (p : FrameParts) (n : ℕ) (rest : List ℕ) → length (frameBytes p n) ≡ n → p .ctrl .sqn ≤ 3 → parseOf (frameBytes p n ++ rest) ≡ frameOf (frameBytes p n) (p .addr) (p .ctrl)
 unfolding frameBytes bodyBytes
 frame-of p n rest l q =
     let f = frameBytes p n in
@@ -142,7 +142,7 @@ placeOf noScb = noBlock
 placeOf (scb ty l) = blockAt ty 7 (length l)
 
 -- where the parts of p stand in its frame of n bytes
-abbrev pub builtFields : Parts → ℕ → Fields
+abbrev pub builtFields : FrameParts → ℕ → Fields
 builtFields p n =
     record {
       addr = p .addr;
@@ -152,7 +152,7 @@ builtFields p n =
       dataStart = 6 + length (blockBytes (p .block));
       dataLen = length (p .«data»);
       mac = macAt (made.due (p .block)) (6 + length (blockBytes (p .block)) + length (p .«data»));
-      trailer = tailOf (p .ctrl .crc) (signedBytes p n);
+      trailer = tailOf (p .ctrl .crc) (coveredBytes p n);
       len = n;
     }
 
@@ -171,22 +171,22 @@ pub same-fields : (a : ℕ) (c : Control) (b : BlockAt) (t : Tail) {k k′ s s�
     → fieldsAt a c b t k s n m l ≡ fieldsAt a c b t k′ s′ n′ m′ l′
 same-fields a c b t ek es en em el = λ i. fieldsAt a c b t (ek i) (es i) (en i) (em i) (el i)
 
-abbrev mk : ℕ → Control → FrameBlock → ℕ → List ℕ → List ℕ → Parts
+abbrev mk : ℕ → Control → FrameBlock → ℕ → List ℕ → List ℕ → FrameParts
 mk a c b k d m = record { addr = a; ctrl = c; block = b; code = k; «data» = d; mac = m }
 
 places : (a : ℕ) (c : Control) (b : FrameBlock) (k : ℕ) (d m : List ℕ) (n have : ℕ) → Typed b → length (frameBytes (mk a c b k d m) n) ≡ n
-    → Fine c (made.present b) (made.due b) (length m) (made.blockN b) (length d) have n
+    → Fine c (sizesOf (mk a c b k d m) (length m) have) n
     → frameOf (frameBytes (mk a c b k d m) n) a c ≡ given (builtFields (mk a c b k d m) n)
 unfolding frameBytes bodyBytes
 places a c noScb k d m n have ty l f =
     let p = mk a c noScb k d m in
-    let x = signedBytes p n in
+    let x = coveredBytes p n in
     let lx : length x ≡ 6 + length d + length m = length-append (bodyBytes a c noScb k d n) m ∙ ap (λ (j : ℕ). j + length m) (body-length a c noScb k d n) in
     let len : length (x ++ tailBytes (c .crc) x) - (6 + trailerLen (c .crc)) ≡ length d = omega (arith, f .total, f .macs) in
     frame-none x a c (sym (f .flag)) (omega arith) ∙ ap given (same-fields a c noBlock (tailOf (c .crc) x) refl refl len refl l)
 places a c (scb t bl) k d m n have ty l f =
     let p = mk a c (scb t bl) k d m in
-    let x = signedBytes p n in
+    let x = coveredBytes p n in
     let lx : length x ≡ 8 + length bl + length d + length m = length-append (bodyBytes a c (scb t bl) k d n) m ∙ omega (arith, body-length a c (scb t bl) k d n) in
     let r = k ∷ (d ++ (m ++ tailBytes (c .crc) x)) in
     let e : drop 5 (x ++ tailBytes (c .crc) x) ≡ (length bl + 2) ∷ t ∷ (bl ++ r) = ap (λ (z : List ℕ). (length bl + 2) ∷ t ∷ z) (tail-end bl k d m (tailBytes (c .crc) x)) in
@@ -200,7 +200,7 @@ places a c (scb t bl) k d m n have ty l f =
     frame-block x bl r t a c (sym (f .flag)) ty e (omega (arith, f .macs)) ∙ ap given (same-fields a c (blockAt t 7 (length bl)) (tailOf (c .crc) x) code start len (ap (macAt (hasMac t)) mac) l)
 
 -- A frame that was built is read back: it gives the places of the parts it was built from, whatever follows it.
-pub built-reads : (p : Parts) (have : ℕ) (b rest : List ℕ) → Typed (p .block) → buildOf p have ≡ given b → parseOf (b ++ rest) ≡ given (builtFields p (length b))
+pub built-reads : (p : FrameParts) (have : ℕ) (b rest : List ℕ) → Typed (p .block) → buildOf p have ≡ given b → parseOf (b ++ rest) ≡ given (builtFields p (length b))
 built-reads p have b rest ty e =
     let w = holds-given (Whole p have) (buildOf p have) b (whole p have) e in
     let f = w .tests in

@@ -21,7 +21,7 @@ use Rattle.packet_head.proofs.Types.{type-range}
 use Rattle.packet_parse.specs.Frame.{Fields, BlockAt, BlockAt.noBlock, BlockAt.blockAt, MacAt, MacAt.noMac, MacAt.macFrom, typeIn, parseOf}
 use Rattle.packet_parse.proofs.Within.{accepted-inside}
 use Rattle.packet_parse.proofs.MacDue.{TypeKnown, accepted-due}
-use Rattle.packet_build.specs.Build.{Parts, FrameBlock.scb, scbGiven, macBytes, partsGiven, buildOf}
+use Rattle.packet_build.specs.Build.{FrameParts, FrameBlock.scb, scbGiven, macBytes, partsGiven, buildOf}
 use Rattle.packet_build.specs.declared.codec.BuildBlock.{BuildBlock}
 use Rattle.packet_build.specs.declared.codec.GivenMac.{GivenMac}
 use Rattle.packet_build.specs.declared.codec.PacketBuilder.{PacketBuilder}
@@ -69,7 +69,7 @@ shown-builds s w l d m n b h have room =
     let ed : partsFrom f F .«data» ≡ d = sym (payload-seen f rest F g lf) ∙ ap payloadOf cut ∙ h .payload in
     let em : partsFrom f F .mac ≡ macBytes m = sym (mac-seen f rest F g lf) ∙ ap frameMacOf cut ∙ h .mac in
     let same : partsFrom f F ≡ partsGiven w l d m = λ i. record { addr = ea i; ctrl = ec i; block = eb i; code = ek i; «data» = ed i; mac = em i } in
-    ap (λ (p : Parts). buildOf p have) (sym same) ∙ accepted-rebuilds s F b e have (omega arith) ∙ ap (λ (j : ℕ). given (take j s)) k
+    ap (λ (p : FrameParts). buildOf p have) (sym same) ∙ accepted-rebuilds s F b e have (omega arith) ∙ ap (λ (j : ℕ). given (take j s)) k
 
 -- ---- from a view
 

@@ -21,9 +21,9 @@ use Rattle.laws.proofs.Answers.{Holds, holds-refuse, holds-choose, holds-then, 
 use Rattle.laws.proofs.Lists.{part-length}
 use Rattle.laws.proofs.Listed.{front-listed}
 use Rattle.packet_parse.specs.Trailer.{crcGot, trailerOf}
-use Rattle.packet_parse.specs.Frame.{Head, Fields, BlockAt, BlockAt.noBlock, BlockAt.blockAt, MacAt, MacAt.noMac, MacAt.macFrom, macAt, lenOf, headOf, fieldsOf, partsOf, frameOf, parseOf}
+use Rattle.packet_parse.specs.Frame.{Head, Fields, BlockAt, BlockAt.noBlock, BlockAt.blockAt, MacAt, MacAt.noMac, MacAt.macFrom, macAt, lenOf, headOf, fieldsOf, restOf, frameOf, parseOf}
 use Rattle.packet_build.specs.Build as made
-use Rattle.packet_build.specs.Build.{Parts, FrameBlock, FrameBlock.noScb, FrameBlock.scb, blockBytes, headBytes, tailBytes, frameBytes, signedBytes, bodyBytes, buildOf, totalN}
+use Rattle.packet_build.specs.Build.{FrameParts, FrameBlock, FrameBlock.noScb, FrameBlock.scb, blockBytes, headBytes, tailBytes, frameBytes, coveredBytes, bodyBytes, buildOf, totalLen, sizesOf}
 use Rattle.packet_build.proofs.Sizes.{passes, bytesN-is}
 
 -- ---- the control byte
@@ -73,7 +73,7 @@ abbrev pub macBytesFrom : MacAt → List ℕ → List ℕ
 macBytesFrom noMac f = []
 macBytesFrom (macFrom at) f = take 4 (drop at f)
 
-abbrev pub partsFrom : List ℕ → Fields → Parts
+abbrev pub partsFrom : List ℕ → Fields → FrameParts
 partsFrom f F =
     record {
       addr = F .addr;
@@ -128,10 +128,10 @@ mac-size : (f : List ℕ) (at : ℕ) (mac t : Bool) → at + 1 + macLen mac + tr
 mac-size f at true t h = part-length f (length f - (4 + trailerLen t)) 4 (omega arith)
 mac-size f at false t h = refl
 
-signed-there : (f : List ℕ) (a : ℕ) (c : Control) (k : BlockAt) (at : ℕ) (mac : Bool) (x : Tail) → Placed f a c k at mac → at + 1 + macLen mac + trailerLen (c .crc) ≤ length f
-    → signedBytes (partsFrom f (fieldsOf f a c k at mac x)) (length f) ≡ take (length f - trailerLen (c .crc)) f
+covered-there : (f : List ℕ) (a : ℕ) (c : Control) (k : BlockAt) (at : ℕ) (mac : Bool) (x : Tail) → Placed f a c k at mac → at + 1 + macLen mac + trailerLen (c .crc) ≤ length f
+    → coveredBytes (partsFrom f (fieldsOf f a c k at mac x)) (length f) ≡ take (length f - trailerLen (c .crc)) f
 unfolding bodyBytes
-signed-there f a c k at mac x p h =
+covered-there f a c k at mac x p h =
     let n = dataN f at mac (c .crc) in
     let m = macBytesFrom (macAt mac (length f - (macLen mac + trailerLen (c .crc)))) f in
     ap (λ (z : List ℕ). z ++ (getD f at 0 ∷ []) ++ take n (drop (at + 1) f) ++ m) (p .front)
@@ -153,15 +153,16 @@ built-again f a c k at mac x h p l t have room =
     let ld : length (take n (drop (at + 1) f)) ≡ n = part-length f (at + 1) n (omega arith) in
     let lm : length m ≡ macLen mac = mac-size f at mac (c .crc) l in
     let most : length f ≤ 65535 = omega (arith, h .len, h .bytes 2, h .bytes 3) in
-    let total : length f ≡ totalN (c .crc) (made.present b) (length m) (made.blockN b) (length (take n (drop (at + 1) f))) = omega (arith, bytesN-is b, p .size) in
-    let e = passes c (made.present b) (made.due b) (length m) (made.blockN b) (length (take n (drop (at + 1) f))) have (length f)
+    let z = sizesOf (partsFrom f (fieldsOf f a c k at mac x)) (length m) have in
+    let total : length f ≡ totalLen (c .crc) z = omega (arith, bytesN-is b, p .size) in
+    let e = passes c z (length f)
     (record { sqn = h .sqn; flag = p .flag; macs = lm ∙ ap macLen (sym (p .due)); total = total; most = most; room = room; small = p .small }) in
-    let s = signed-there f a c k at mac x p l in
+    let s = covered-there f a c k at mac x p l in
     rw e (ap given (ap (λ (z : List ℕ). z ++ tailBytes (c .crc) z) s ∙ ap (λ (z : List ℕ). take (length f - trailerLen (c .crc)) f ++ z) t ∙ take-append-drop (length f - trailerLen (c .crc)) f))
 
-parts-there : (f : List ℕ) (a : ℕ) (c : Control) (k : BlockAt) (at : ℕ) (mac : Bool) → Headed f a c → Placed f a c k at mac → Holds (Again f) (partsOf f a c k at mac)
-unfolding partsOf
-parts-there f a c k at mac h p =
+rest-there : (f : List ℕ) (a : ℕ) (c : Control) (k : BlockAt) (at : ℕ) (mac : Bool) → Headed f a c → Placed f a c k at mac → Holds (Again f) (restOf f a c k at mac)
+unfolding restOf
+rest-there f a c k at mac h p =
     holds-refuse _ _ _ _ _ (λ _. holds-refuse _ _ _ _ _ (λ l. holds-then _ _ _ (λ x e. (
       refl,
       built-again f a c k at mac x h p (ltb-false _ _ l)
@@ -216,8 +217,8 @@ frame-there f a c hd =
     let q : 6 + trailerLen (c .crc) ≤ length f = ltb-false _ _ l in
     let h = hd (omega arith) in
     holds-choose _ _ _ _
-    (λ e. holds-then _ _ _ (λ b g. parts-there f a c (blockAt (b .0) 7 (b .1)) (7 + b .1) (hasMac (b .0)) h (placed-block f a c b h e (holds-given (Blocked (drop 5 f)) (scbOf (drop 5 f)) b (block-there (drop 5 f)) g))))
-    (λ e. parts-there f a c noBlock 5 false h (placed-none f a c h e)))
+    (λ e. holds-then _ _ _ (λ b g. rest-there f a c (blockAt (b .0) 7 (b .1)) (7 + b .1) (hasMac (b .0)) h (placed-block f a c b h e (holds-given (Blocked (drop 5 f)) (scbOf (drop 5 f)) b (block-there (drop 5 f)) g))))
+    (λ e. rest-there f a c noBlock 5 false h (placed-none f a c h e)))
 
 -- ---- the first LEN bytes
 

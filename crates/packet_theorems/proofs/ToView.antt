@@ -10,7 +10,7 @@ use Rattle.laws.specs.Over.{write}
 use Rattle.laws.proofs.Answers.{given-inj, given-refused}
 use Rattle.packet_head.proofs.Types.{type-taken}
 use Rattle.packet_parse.specs.Frame.{Fields, typeIn, parseOf}
-use Rattle.packet_build.specs.Build.{Parts, scbGiven, partsGiven, buildOf}
+use Rattle.packet_build.specs.Build.{FrameParts, scbGiven, partsGiven, buildOf}
 use Rattle.packet_build.specs.declared.codec.BuildBlock.{BuildBlock}
 use Rattle.packet_build.specs.declared.codec.GivenMac.{GivenMac}
 use Rattle.packet_build.specs.declared.codec.PacketBuilder.{PacketBuilder}
@@ -48,9 +48,9 @@ built-shows w l d m have b rest e =
       type = ap (λ (x : Answer Fields). placesOf x .type) k ∙ asked-type (w .block) l;
       code = ap (λ (x : Answer Fields). placesOf x .code) k;
       len = ap (λ (x : Answer Fields). placesOf x .len) k;
-      block = block-data-seen b rest F k refl ∙ ap (λ (q : Parts). blockDataIn (q .block)) (r .1) ∙ asked-data (w .block) l;
-      payload = payload-seen b rest F k refl ∙ ap (λ (q : Parts). q .«data») (r .1);
-      mac = mac-seen b rest F k refl ∙ ap (λ (q : Parts). q .mac) (r .1);
+      block = block-data-seen b rest F k refl ∙ ap (λ (q : FrameParts). blockDataIn (q .block)) (r .1) ∙ asked-data (w .block) l;
+      payload = payload-seen b rest F k refl ∙ ap (λ (q : FrameParts). q .«data») (r .1);
+      mac = mac-seen b rest F k refl ∙ ap (λ (q : FrameParts). q .mac) (r .1);
     }
 
 -- `build` on a buffer o answers n: the view of the buffer, as it is then, shows what was given.

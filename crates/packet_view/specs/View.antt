@@ -9,6 +9,7 @@ use denote.Ref.{RefT, now}
 use Rattle.laws.specs.Answer.{Answer, Answer.given, Answer.refused}
 use Rattle.packet_view.specs.Stretch.{Stretch, stretchIn}
 use Rattle.refusal.specs.Reading.{outcomeAnswer}
+use Rattle.packet_head.specs.Numbers.{«MAC_LEN»}
 use Rattle.packet_head.specs.Header.{Control, control}
 use Rattle.packet_head.specs.Block.{typeOf}
 use Rattle.packet_head.specs.Trailer.{Tail, Tail.checksum, tail}
@@ -43,7 +44,7 @@ dataIn F = (F .dataStart, F .dataLen)
 
 abbrev pub macIn : MacAt → Part
 macIn noMac = (0, 0)
-macIn (macFrom at) = (at, 4)
+macIn (macFrom at) = (at, «MAC_LEN»)
 
 -- ---- what a view tells
 

@@ -7,6 +7,7 @@ ghost use Rattle.packet_view.specs.Stretch.{stretchOf};
 ghost use Rattle.packet_view.specs.View.{placesTold, placesOf, kindOf, blockIn, macIn, partSeen};
 use packet_head::Address;
 use packet_head::ControlByte;
+use packet_head::MAC_LEN;
 use packet_head::ScsType;
 use packet_head::Sqn;
 use packet_head::Trailer;
@@ -72,7 +73,7 @@ fn mac_span(m: MacPart) -> Span
 {
     match m {
         MacPart::Absent => Span { at: 0, len: 0 },
-        MacPart::At(at) => Span { at, len: 4 },
+        MacPart::At(at) => Span { at, len: MAC_LEN },
     }
 }
 

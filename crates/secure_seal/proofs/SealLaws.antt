@@ -146,9 +146,9 @@ fieldsWith q t =
       len = totalOf q;
     }
 
-tests-pass : (sqn n have : ℕ) → sqn ≤ 3 → 14 + n ≤ 65535 → 14 + n ≤ have → testOf (sealedControl sqn) true true 4 0 n have ≡ given (14 + n)
+tests-pass : (sqn n have : ℕ) → sqn ≤ 3 → 14 + n ≤ 65535 → 14 + n ≤ have → testOf (sealedControl sqn) (record { hasBlock = true; macDue = true; mac = 4; blockData = 0; «data» = n; room = have }) ≡ given (14 + n)
 tests-pass sqn n have h m r =
-    passes (sealedControl sqn) true true 4 0 n have (14 + n)
+    passes (sealedControl sqn) _ (14 + n)
     (record { sqn = h; flag = refl; macs = refl; total = omega arith; most = m; room = r; small = omega arith })
 
 -- its data, and the four bytes of its MAC

@@ -9,10 +9,11 @@ use lib.ListN.{length, take}
 use Rattle.laws.specs.Answer.{Answer, Answer.given, Answer.refused, refuseIf}
 use Rattle.laws.specs.Bytes.{Bytes, compl}
 use Rattle.laws.specs.Over.{write}
+use Rattle.packet_head.specs.Numbers.{«MAX_SQN», «SCB_DATA_AT», «CODE_LEN», «MAC_LEN», «CRC_LEN», «MAX_LEN»}
 use Rattle.packet_head.specs.Header.{Control}
 use Rattle.packet_head.specs.declared.header.Address.{Address}
 use Rattle.packet_head.specs.declared.header.Sqn.{Sqn}
-use Rattle.packet_build.specs.Build.{FrameBlock.scb, Parts, bodyBytes, frameBytes}
+use Rattle.packet_build.specs.Build.{FrameBlock.scb, FrameParts, bodyBytes, frameBytes}
 use Rattle.secure_keys.specs.declared.crypto.SessionKeys.{SessionKeys}
 use Rattle.refusal.specs.Reading.{lengthAnswer}
 use Rattle.secure_cipher.specs.Mac.{macOf}
@@ -56,23 +57,29 @@ pub record Asked : Type 0 where
 abbrev pub askedOf : Address → Sqn → Direction → Bool → ℕ → List ℕ → Asked
 askedOf a n d e c x = record { addr = a .0; sqn = n .0; direction = d; encrypt = e; code = c; payload = x }
 
--- 53, address, LEN, CTRL, block, code: eight bytes; MAC and CRC: six
+-- what stands before the data, the block's two bytes and the code behind the head; and behind it, MAC and CRC
+abbrev pub beforeData : ℕ
+beforeData = «SCB_DATA_AT» + «CODE_LEN»
+
+abbrev pub afterData : ℕ
+afterData = «MAC_LEN» + «CRC_LEN»
+
 abbrev pub totalOf : Asked → ℕ
-totalOf q = 14 + dataLenFor (q .encrypt) (q .payload)
+totalOf q = beforeData + afterData + dataLenFor (q .encrypt) (q .payload)
 
 -- bytes, a sequence number, and a total within LEN
 pub record Sealable (q : Asked) : Type 0 where
   pub addr : q .addr < 256
-  pub sqn : q .sqn ≤ 3
+  pub sqn : q .sqn ≤ «MAX_SQN»
   pub code : q .code < 256
   pub payload : Bytes (q .payload)
-  pub total : totalOf q ≤ 65535
+  pub total : totalOf q ≤ «MAX_LEN»
 
 -- always a CRC and a block, which has no data
 abbrev pub sealedControl : ℕ → Control
 sealedControl n = record { sqn = n; crc = true; block = true }
 
-abbrev pub partsWith : Asked → List ℕ → List ℕ → Parts
+abbrev pub partsWith : Asked → List ℕ → List ℕ → FrameParts
 partsWith q d mac =
     record { addr = q .addr; ctrl = sealedControl (q .sqn); block = scb (typeFor (q .direction) (q .encrypt)) []; code = q .code; «data» = d; mac = mac }
 
@@ -85,19 +92,19 @@ pub record SealedFrame : Type 0 where
   pub full : List ℕ
   pub steps : ℕ
 
--- the data, the MAC over all up to its end, and the frame with the MAC's first four bytes
+-- the data, the MAC over all up to its end, and the frame with the MAC's first bytes
 unfoldable pub sealedFrame : SessionKeys → List ℕ → Asked → SealedFrame
 sealedFrame k v q =
     let d = dataOf (q .encrypt) (k .«s_enc») v (q .payload) in
     let m = macOf (k .«s_mac1») (k .«s_mac2») v (bodyWith q (d .bytes)) in
-    record { bytes = frameBytes (partsWith q (d .bytes) (take 4 (m .full))) (totalOf q); full = m .full; steps = d .steps + m .steps }
+    record { bytes = frameBytes (partsWith q (d .bytes) (take «MAC_LEN» (m .full))) (totalOf q); full = m .full; steps = d .steps + m .steps }
 
 -- ---- the tests of a frame of t bytes, for a buffer of `have`: 10, 12, 18
 
 unfoldable pub frameTest : ℕ → ℕ → ℕ → Answer ℕ
 frameTest n t have =
-    refuseIf (ltb 3 n) 10 (n ∷ [])
-    (refuseIf (ltb 65535 t) 12 (t ∷ 65535 ∷ [])
+    refuseIf (ltb «MAX_SQN» n) 10 (n ∷ [])
+    (refuseIf (ltb «MAX_LEN» t) 12 (t ∷ «MAX_LEN» ∷ [])
     (refuseIf (ltb have t) 18 (t ∷ have ∷ [])
     (given t)))
 

@@ -6,13 +6,23 @@ ghost use mathlib.Core.List.{[]};
 ghost use lib.ListN.{length, take};
 ghost use Rattle.laws.specs.Over.{write};
 ghost use Rattle.packet_build.specs.Build.{FrameBlock.scb, bodyBytes, tailBytes};
+ghost use Rattle.packet_head.specs.Numbers.{«MAX_SQN», «MAC_LEN», «MAX_LEN»};
 ghost use Rattle.packet_head.specs.Block.{typeOf};
 ghost use Rattle.refusal.specs.Reading.{lengthAnswer};
 ghost use Rattle.secure_session.specs.Chain.{sendFrom};
 ghost use Rattle.secure_session.specs.Session.{isSecure};
-ghost use Rattle.secure_seal.specs.Seal.{typeFor, dataLenFor, dataOf, askedOf, sealedControl, frameTest, sealOf, sealTold};
+ghost use Rattle.secure_seal.specs.Seal.{typeFor, dataLenFor, dataOf, askedOf, beforeData, afterData, sealedControl, frameTest, sealOf, sealTold};
 ghost use Rattle.secure_seal.specs.Parts.{Put, refusedWith};
 use packet_head::Address;
+use packet_head::CODE_LEN;
+use packet_head::CRC_LEN;
+use packet_head::ControlByte;
+use packet_head::MAC_LEN;
+use packet_head::MAX_LEN;
+use packet_head::MAX_SQN;
+use packet_head::SCB_DATA_AT;
+use packet_head::SCB_HEADER_LEN;
+use packet_head::SOM;
 use packet_head::ScsType;
 use packet_head::Sqn;
 use refusal::LengthAnswer;
@@ -55,14 +65,30 @@ pub struct Sealed {
     pub session: Session,
 }
 
+// What stands before the data, the block's two bytes and the code behind the head; and behind it, MAC and CRC.
+const BEFORE_DATA: usize = SCB_DATA_AT + CODE_LEN;
+
+const AFTER_DATA: usize = MAC_LEN + CRC_LEN;
+
+const AROUND_DATA: usize = BEFORE_DATA + AFTER_DATA;
+
+// The same, with the last block, which holds padding.
+const AROUND_BLOCKS: usize = AROUND_DATA + 16;
+
+// The length byte of a block without data.
+const EMPTY_BLOCK: u8 = SCB_HEADER_LEN as u8;
+
+// A CRC and a block, always.
+const FLAGS: u8 = ControlByte::USE_CRC + ControlByte::HAS_SCB;
+
 // How long the frame is.
 fn total_len(encrypt: bool, data: &[u8]) -> usize
-    ensures { λ r. ⌜ r ≡ 14 + dataLenFor encrypt (now («data» .entry)) ⌝ }
+    ensures { λ r. ⌜ r ≡ beforeData + afterData + dataLenFor encrypt (now («data» .entry)) ⌝ }
 {
     if encrypt {
-        data.len() / 16 * 16 + 30
+        data.len() / 16 * 16 + AROUND_BLOCKS
     } else {
-        data.len() + 14
+        data.len() + AROUND_DATA
     }
 }
 
@@ -71,13 +97,13 @@ fn test(sqn: Sqn, total: usize, have: usize) -> LengthAnswer
     ensures { λ r. ⌜ lengthAnswer r ≡ frameTest (sqn .0) total have ⌝ }
 {
     let n = sqn.value();
-    if 3 < n {
+    if MAX_SQN < n {
         return LengthAnswer::Refused(Refusal::BadSqn(n));
     }
-    if 65535 < total {
+    if MAX_LEN < total {
         return LengthAnswer::Refused(Refusal::BufferOverflow {
             need: total,
-            have: 65535,
+            have: MAX_LEN,
         });
     }
     if have < total {
@@ -98,20 +124,20 @@ fn copy(src: &[u8], out: &mut [u8])
 
 // The eight bytes before the data, in a frame of total bytes: the block has no data of its own, and the trailer is a CRC.
 fn put_head(addr: Address, sqn: Sqn, kind: ScsType, code: u8, total: usize, out: &mut [u8])
-    requires { ⌜ (sqn .0 ≤ 3) × (total ≤ 65535) × (8 ≤ length (now out)) ⌝ }
+    requires { ⌜ (sqn .0 ≤ «MAX_SQN») × (total ≤ «MAX_LEN») × (beforeData ≤ length (now out)) ⌝ }
     ensures { λ _. ⌜ now (out .exit) ≡ write (now (out .entry)) 0 (bodyBytes (addr .0) (sealedControl (sqn .0)) (scb (typeOf kind) []) code [] total) ⌝ }
 {
     let head = [
-        0x53,
+        SOM,
         addr.as_byte(),
         (total % 256) as u8,
         (total / 256) as u8,
-        sqn.value() + 0x0C,
-        2,
+        sqn.value() + FLAGS,
+        EMPTY_BLOCK,
         kind.as_byte(),
         code,
     ];
-    copy(&head, &mut out[..8]);
+    copy(&head, &mut out[..BEFORE_DATA]);
 }
 
 // The data over the whole of out; how often the cipher was called for it.
@@ -130,14 +156,14 @@ fn put_data(session: Session, encrypt: bool, data: &[u8], out: &mut [u8]) -> usi
 
 // Behind the body, which is out up to end: the first four bytes of the MAC, and the CRC.
 fn put_end(full: [u8; 16], end: usize, out: &mut [u8])
-    requires { ⌜ end + 6 ≤ length (now out) ⌝ }
-    ensures { λ _. ⌜ now (out .exit) ≡ write (write (now (out .entry)) end (take 4 full)) (end + 4) (tailBytes true (take (end + 4) (write (now (out .entry)) end (take 4 full)))) ⌝ }
+    requires { ⌜ end + afterData ≤ length (now out) ⌝ }
+    ensures { λ _. ⌜ now (out .exit) ≡ write (write (now (out .entry)) end (take «MAC_LEN» full)) (end + «MAC_LEN») (tailBytes true (take (end + «MAC_LEN») (write (now (out .entry)) end (take «MAC_LEN» full)))) ⌝ }
 {
     let mac = [full[0], full[1], full[2], full[3]];
-    let crc_at = end + 4;
+    let crc_at = end + MAC_LEN;
     copy(&mac, &mut out[end..crc_at]);
     let crc = packet_sums::crc16_le(&out[..crc_at]);
-    let after = end + 6;
+    let after = end + AFTER_DATA;
     copy(&crc, &mut out[crc_at..after]);
 }
 
@@ -154,12 +180,12 @@ fn put_frame(
     data: &[u8],
     out: &mut [u8],
 ) -> Sealed
-    requires { ⌜ (isSecure (session .state) ≡ true) × (sqn .0 ≤ 3) × (total ≡ 14 + dataLenFor encrypt (now «data»)) × (total ≤ 65535) × (total ≤ length (now out)) ⌝ }
+    requires { ⌜ (isSecure (session .state) ≡ true) × (sqn .0 ≤ «MAX_SQN») × (total ≡ beforeData + afterData + dataLenFor encrypt (now «data»)) × (total ≤ «MAX_LEN») × (total ≤ length (now out)) ⌝ }
     ensures { λ r. ⌜ Put session (askedOf addr sqn direction encrypt code (now («data» .entry))) (now (out .entry)) (now (out .exit)) r ⌝ }
 {
-    let end = total - 6;
+    let end = total - AFTER_DATA;
     put_head(addr, sqn, direction.scs_for(encrypt), code, total, out);
-    let hidden = put_data(session, encrypt, data, &mut out[8..end]);
+    let hidden = put_data(session, encrypt, data, &mut out[BEFORE_DATA..end]);
     let made = session.mac(&out[..end]);
     let full = made.block;
     put_end(full, end, out);

@@ -18,7 +18,7 @@ use Rattle.laws.proofs.Lists.{part-length}
 use Rattle.packet_head.specs.Header.{Control}
 use Rattle.packet_head.specs.Block.{hasMac, isEncrypted}
 use Rattle.packet_head.specs.Trailer.{macLen, trailerLen}
-use Rattle.packet_parse.specs.Frame.{Fields, BlockAt, BlockAt.noBlock, BlockAt.blockAt, typeIn, macStart, macAt, partsOf, frameOf, parseOf}
+use Rattle.packet_parse.specs.Frame.{Fields, BlockAt, BlockAt.noBlock, BlockAt.blockAt, typeIn, macStart, macAt, restOf, frameOf, parseOf}
 use Rattle.secure_cipher.specs.Pad.{unpad, unpadFrom}
 use Rattle.secure_cipher.specs.Cbc.{Opening, reveal}
 use Rattle.secure_cipher.proofs.CbcLaws.{dec-steps}
@@ -37,16 +37,16 @@ use Rattle.secure_unseal.proofs.Wiping.{check-counted}
 abbrev Placed : Fields → Type 0
 Placed p = p .mac ≡ macAt (hasMac (typeIn (p .block))) (p .len - (macLen (hasMac (typeIn (p .block))) + trailerLen (p .ctrl .crc)))
 
-parts-placed : (f : List ℕ) (a : ℕ) (c : Control) (b : BlockAt) (at : ℕ) → Holds Placed (partsOf f a c b at (hasMac (typeIn b)))
-unfolding partsOf
-parts-placed f a c b at = holds-refuse _ _ _ _ _ (λ _. holds-refuse _ _ _ _ _ (λ _. holds-then _ _ _ (λ t _. refl)))
+rest-placed : (f : List ℕ) (a : ℕ) (c : Control) (b : BlockAt) (at : ℕ) → Holds Placed (restOf f a c b at (hasMac (typeIn b)))
+unfolding restOf
+rest-placed f a c b at = holds-refuse _ _ _ _ _ (λ _. holds-refuse _ _ _ _ _ (λ _. holds-then _ _ _ (λ t _. refl)))
 
 frame-placed : (f : List ℕ) (a : ℕ) (c : Control) → Holds Placed (frameOf f a c)
 unfolding frameOf
 frame-placed f a c =
     holds-refuse _ _ _ _ _ (λ _. holds-choose _ _ _ _
-    (λ _. holds-then _ _ _ (λ b e. parts-placed f a c (blockAt (b .0) 7 (b .1)) (7 + b .1)))
-    (λ _. parts-placed f a c noBlock 5))
+    (λ _. holds-then _ _ _ (λ b e. rest-placed f a c (blockAt (b .0) 7 (b .1)) (7 + b .1)))
+    (λ _. rest-placed f a c noBlock 5))
 
 parse-placed : (s : List ℕ) → Holds Placed (parseOf s)
 unfolding parseOf

@@ -4,6 +4,7 @@ use Prim.Native.Nat.{ℕ, _+_, _-_, _/_, _%_}
 use mathlib.Core.Bool.{cond, _||_}
 use lib.Dec.{eqb}
 use Rattle.laws.specs.Answer.{Answer, Answer.given, Answer.refused}
+use Rattle.packet_head.specs.Numbers.{«MAC_LEN»}
 use Rattle.packet_head.specs.Block.{isEncrypted}
 use Rattle.packet_head.specs.Trailer.{trailerLen}
 use Rattle.packet_parse.specs.Frame.{Fields, typeIn}
@@ -17,7 +18,7 @@ unsealNumber (refused n vs) = n
 
 -- what the MAC is over, the body: LEN, less the MAC and the trailer
 abbrev pub bodyLen : Fields → ℕ
-bodyLen p = p .len - 4 - trailerLen (p .ctrl .crc)
+bodyLen p = p .len - «MAC_LEN» - trailerLen (p .ctrl .crc)
 
 -- for the data: one for each block of types 17 and 18; none where it has no whole blocks
 unfoldable pub dataCalls : Fields → ℕ

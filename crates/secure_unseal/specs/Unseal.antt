@@ -10,6 +10,7 @@ use lib.ListN.{length, take, drop}
 use Rattle.laws.specs.Answer.{Answer, Answer.given, Answer.refused}
 use Rattle.laws.specs.Bytes.{compl, eql}
 use Rattle.refusal.specs.Paper.{refusalOf}
+use Rattle.packet_head.specs.Numbers.{«MAC_LEN»}
 use Rattle.packet_head.specs.Block.{hasMac, isEncrypted}
 use Rattle.packet_parse.specs.Frame.{Fields, typeIn, macStart, parseOf}
 use Rattle.secure_keys.specs.declared.crypto.SessionKeys.{SessionKeys}
@@ -33,7 +34,7 @@ pub record Checked : Type 0 where
 unfoldable pub check : SessionKeys → List ℕ → List ℕ → ℕ → Checked
 check k v f at =
     let m = macOf (k .«s_mac1») (k .«s_mac2») v (take at f) in
-    record { right = eql (take 4 (m .full)) (take 4 (drop at f)); full = m .full; steps = m .steps }
+    record { right = eql (take «MAC_LEN» (m .full)) (take «MAC_LEN» (drop at f)); full = m .full; steps = m .steps }
 
 -- ---- the data's opening, from the complement of the start value v
 

@@ -9,26 +9,26 @@ use Rattle.laws.specs.Answer.{Answer, Answer.given}
 use Rattle.laws.specs.Buffer.{sized, written}
 use Rattle.refusal.specs.Paper.{numberOf, valuesOf}
 use Rattle.packet_head.specs.Header.{ctrlByte}
-use Rattle.packet_build.specs.Build.{Parts, partsGiven, partsTest}
+use Rattle.packet_build.specs.Build.{FrameParts, partsGiven, testOf, sizesOf}
 use Rattle.packet_build.specs.Tested.{withCtrl, tested}
 use Rattle.packet_build.proofs.Tests.{with-given, with-refused}
 use Rattle.packet_build.proofs.Sizes.{FineParts, fine-parts, bytes-length}
-use Rattle.packet_build.proofs.Frames.{build-given, build-refused, mac-fits, signed-written, frame-written}
+use Rattle.packet_build.proofs.Frames.{build-given, build-refused, mac-fits, covered-written, frame-written}
 use Rattle.packet_build.proofs.codec.build.Statement.{statement}
 use Rattle.packet_build.proofs.codec.build.Tie as tie
 
 -- the parts that the arguments make, and the paper's tests of them
-abbrev parts : tie.Start → Parts
+abbrev parts : tie.Start → FrameParts
 parts c = partsGiven (c .args .w) (c .args .block .now) (c .args .«data» .now) (c .args .mac)
 
 abbrev tests : tie.Start → Answer ℕ
-tests c = let p = parts c in partsTest (p .ctrl) (p .block) (length (p .mac)) (length (p .«data»)) (length (c .args .out .now))
+tests c = let p = parts c in testOf (p .ctrl) (sizesOf p (length (p .mac)) (length (c .args .out .now)))
 
 answered : (c : tie.After-test-parts) → tested (c .test-parts .result) ≡ withCtrl (parts (c .before .before .before .before .before) .ctrl) (tests (c .before .before .before .before .before))
 answered c =
     let p = parts (c .before .before .before .before .before) in
     c .test-parts .ensures
-    ∙ ap (λ (n : ℕ). withCtrl (p .ctrl) (partsTest (p .ctrl) (p .block) n (length (p .«data»)) (length (c .before .before .before .before .before .args .out .now)))) (c .before .size .ensures .0)
+    ∙ ap (λ (n : ℕ). withCtrl (p .ctrl) (testOf (p .ctrl) (sizesOf p n (length (c .before .before .before .before .before .args .out .now))))) (c .before .size .ensures .0)
 
 passed : (c : tie.After-total) → (tests (c .before .before .before .before .before .before .before) ≡ given (c .total .given .0 .0)) × (c .total .given .0 .1 .0 ≡ ctrlByte (parts (c .before .before .before .before .before .before .before) .ctrl))
 passed c =
@@ -69,7 +69,7 @@ returns c =
     let e = sym (build-given p (length o) total (passed d .0)) in (
       ap given (omega (arith, n .ensures .0, m .ensures .0, t .ensures .0, bytes-length p total)) ∙ ap sized e,
       frame-written p o total (left d) _ _ (n .result) (m .result) (n .ensures .0) (m .ensures .0)
-          (signed-written p o total (left d) _ _ (n .result) (n .ensures .0) (n .ensures .1) (m .ensures .1)) (t .ensures .1)
+          (covered-written p o total (left d) _ _ (n .result) (n .ensures .0) (n .ensures .1) (m .ensures .1)) (t .ensures .1)
           ∙ ap (written o) e,
     )
 

@@ -9,7 +9,7 @@ use Rattle.laws.specs.Answer.{Answer, Answer.given}
 use Rattle.laws.specs.Buffer.{sized, written}
 use Rattle.refusal.specs.Paper.{numberOf, valuesOf}
 use Rattle.packet_head.specs.Header.{ctrlByte}
-use Rattle.packet_build.specs.Build.{Parts, partsGiven, partsTest}
+use Rattle.packet_build.specs.Build.{FrameParts, partsGiven, testOf, sizesOf}
 use Rattle.packet_build.specs.Tested.{tested}
 use Rattle.packet_build.specs.declared.codec.GivenMac.{GivenMac}
 use Rattle.packet_build.proofs.Tests.{with-given, with-refused}
@@ -19,11 +19,11 @@ use Rattle.packet_build.proofs.codec.build_body.Statement.{statement}
 use Rattle.packet_build.proofs.codec.build_body.Tie as tie
 
 -- the parts that the arguments make, and the paper's tests of them
-abbrev parts : tie.Start → Parts
+abbrev parts : tie.Start → FrameParts
 parts c = partsGiven (c .args .w) (c .args .block .now) (c .args .«data» .now) GivenMac.Absent
 
 abbrev tests : tie.Start → Answer ℕ
-tests c = let p = parts c in partsTest (p .ctrl) (p .block) 4 (length (p .«data»)) (length (c .args .out .now))
+tests c = let p = parts c in testOf (p .ctrl) (sizesOf p 4 (length (c .args .out .now)))
 
 passed : (c : tie.After-total) → (tests (c .before .before .before .before .before .before) ≡ given (c .total .given .0 .0)) × (c .total .given .0 .1 .0 ≡ ctrlByte (parts (c .before .before .before .before .before .before) .ctrl))
 passed c =

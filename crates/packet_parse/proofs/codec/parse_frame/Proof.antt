@@ -33,7 +33,7 @@ returns-2 c =
     let h : 6 + trailerLen (a .ctrl .crc) ≤ length f = omega arith in
     let d : take (length f - 5) (drop 5 f) ≡ drop 5 f = take-all (length f - 5) (drop 5 f) (simp length-drop (omega arith)) in
     let e : scbOf (drop 5 f) ≡ given (typeOf (b .0 .0 .ty), b .0 .0 .«data_len») = ap scbOf (sym d) ∙ sym (z .parse .ensures) ∙ ap scbAnswer (b .1) in
-    rw (le-ltb _ _ h, e) (c .parse-parts .ensures ∙ rw (c .before .has-mac .ensures) (sym (choose-true _ _ _ (z .before .before .if2 .taken))))
+    rw (le-ltb _ _ h, e) (c .parse-rest .ensures ∙ rw (c .before .has-mac .ensures) (sym (choose-true _ _ _ (z .before .before .if2 .taken))))
 
 returns-3 : tie.Need-returns-3
 unfolding frameOf refuseIf andThen
@@ -51,7 +51,7 @@ unfolding frameOf refuseIf
 returns-4 c =
     let a = c .before .before .before .before .before .args in
     let h : 6 + trailerLen (a .ctrl .crc) ≤ length (a .f .now) = omega arith in
-    rw (le-ltb _ _ h) (c .parse-parts2 .ensures ∙ sym (choose-false _ _ _ (c .before .if2 .left)))
+    rw (le-ltb _ _ h) (c .parse-rest2 .ensures ∙ sym (choose-false _ _ _ (c .before .if2 .left)))
 
 pub parse-frame-spec : {M : Type 1} → statement M
 parse-frame-spec =

@@ -1,4 +1,4 @@
--- `parse_parts` meets its contract: the definition's tests, in its order.
+-- `parse_rest` meets its contract: the definition's tests, in its order.
 -- Assumes nothing.
 use mathlib.Core.Path.{_≡_, sym, ap, _∙_}
 use Prim.Native.Nat.{_+_, _≤_, _<_}
@@ -9,20 +9,20 @@ use Rattle.laws.specs.Answer.{Answer.given, refuseIf, andThen}
 use Rattle.refusal.specs.Paper.{refusalOf}
 use Rattle.packet_head.specs.Trailer.{tail, trailerLen, macLen}
 use Rattle.packet_parse.specs.Trailer.{trailerOf, trailerAnswer}
-use Rattle.packet_parse.specs.Frame.{partsOf}
+use Rattle.packet_parse.specs.Frame.{restOf}
 use borrow.Author.Needs.{needs}
-use Rattle.packet_parse.proofs.codec.parse_parts.Statement.{statement}
-use Rattle.packet_parse.proofs.codec.parse_parts.Tie as tie
+use Rattle.packet_parse.proofs.codec.parse_rest.Statement.{statement}
+use Rattle.packet_parse.proofs.codec.parse_rest.Tie as tie
 
 returns : tie.Need-returns
-unfolding partsOf refuseIf
+unfolding restOf refuseIf
 returns c =
     let a = c .before .before .before .before .args in
     let h : length (a .f .now) < a .at + 1 + trailerLen (a .ctrl .crc) = omega arith in
     rw (lt-ltb _ _ h) (c .bad-length .ensures)
 
 returns-2 : tie.Need-returns-2
-unfolding partsOf refuseIf
+unfolding restOf refuseIf
 returns-2 c =
     let a = c .before .before .before .before .before .before .args in
     let h : a .at + 1 + trailerLen (a .ctrl .crc) ≤ length (a .f .now) = omega arith in
@@ -30,7 +30,7 @@ returns-2 c =
     rw (le-ltb _ _ h, lt-ltb _ _ k) (c .bad-length2 .ensures)
 
 returns-3 : tie.Need-returns-3
-unfolding partsOf refuseIf andThen
+unfolding restOf refuseIf andThen
 returns-3 c =
     let z = c .before .before .before .before .before in
     let a = z .before .before .before .before .before .before .args in
@@ -41,7 +41,7 @@ returns-3 c =
     rw (le-ltb _ _ h, le-ltb _ _ k, t, c .mac-part .ensures, z .before .before .mac-len .ensures .0, z .before .before .before .before .trailer-len .ensures .0)
 
 returns-4 : tie.Need-returns-4
-unfolding partsOf refuseIf andThen
+unfolding restOf refuseIf andThen
 returns-4 c =
     let z = c .before .before .before in
     let a = z .before .before .before .before .before .before .args in
@@ -51,8 +51,8 @@ returns-4 c =
     let k : a .at + 1 + macLen (a .mac) + trailerLen (a .ctrl .crc) ≤ length (a .f .now) = omega arith in
     rw (le-ltb _ _ h, le-ltb _ _ k, t)
 
-pub parse-parts-spec : {M : Type 1} → statement M
-parse-parts-spec =
+pub parse-rest-spec : {M : Type 1} → statement M
+parse-rest-spec =
     tie.close
     (tie.spec
     (λ c κs. search needs)
