@@ -7,7 +7,7 @@
 -- The struct is Copy: what it owns is had twice, one copy is kept whole for the exit, and of the other what frame owns goes to the callee, beside the lifetime's token, which comes back. What the numbers own is made anew.
 -- Assumes nothing.
 use mathlib.Core.Path.{_≡_, refl, sym, subst}
-use Prim.Native.Nat.{ℕ, _<_, _^_}
+use Prim.Native.Nat.{ℕ, zero, suc, _<_, _^_}
 use mathlib.Core.Option.{some as here}
 use mathlib.Core.List.{List, [], _∷_}
 use lib.Dec.{T as Holds}
@@ -29,15 +29,16 @@ use types.Kit.{Given, ‵, raw, _⊛_, given, ⋆, some, later, _$_, _∵_, !, q
 use types.Part.{whole, sub, look-in}
 use types.Run.{look, init, forget, stop, fld, from, load, of-opd, and-then, no-more, assigns, land, returns, enter, alloc1, alloc0, params1, pass1, pass0, free1, free0}
 use sound.WpLaws.{FmC, fmOf, WpFn-mono}
-use denote.RattleType.{RattleType, owns}
-use denote.Laws.{Is, shows}
+use denote.RattleType.{RattleType, Denots, Valss, owns}
+use denote.Laws.{Is, shows, valss}
 use denote.Plain.{uint-makes}
 use denote.Builtin.{u8, usize}
 use denote.Ref.{RefT, NamedLft}
 use denote.Signature.{namedLft}
 use denote.Slice.{sliceTy, sliceVal, ShrSlice, shr-slice-lawful}
 use denote.Steps.{owned, peeks, heard, nothing}
-use denote.Struct.Declared.{Declared}
+use denote.Struct.Struct.{AreAll}
+use denote.Struct.Declared.{Declared, fields}
 use denote.Struct.At.{spelled}
 use denote.Struct.Laws as LL
 use denote.Struct.Rest.{all-own, ownAt, rest, own-open, own-out}
@@ -80,23 +81,41 @@ pub record Number : Type 1 where
 
 -- ---- the six numbers that say where the parts stand
 
+-- of what holds of a struct's fields, one after the other, what holds of the k-th
+abbrev pub AreAt : ℕ → (Ts : List RattleType) → Denots Ts → Valss Ts → Type 0
+AreAt k [] xs vss = Unit {0}
+AreAt zero (R ∷ Rs) xs vss = Is R (xs .0) (vss .0)
+AreAt (suc k) (R ∷ Rs) xs vss = AreAt k Rs (xs .1) (vss .1)
+
+pub are-at : (k : ℕ) (Ts : List RattleType) (xs : Denots Ts) (vss : Valss Ts) → AreAll Ts xs vss → AreAt k Ts xs vss
+are-at k [] xs vss h = tt
+are-at zero (R ∷ Rs) xs vss h = h .0
+are-at (suc k) (R ∷ Rs) xs vss h = are-at k Rs (xs .1) (vss .1) (h .1)
+
+-- and of a view
+pub field-holds : (k : ℕ) (α : NamedLft) (d : PacketView) (vs : List Val) → Is (T.the-row α) d vs
+    → let D : Declared = T.the-type α in AreAt k (fields D) (D .to d) (valss (fields D) (LL.spells (D .parts) (T′.the-laws α)) (D .to d))
+field-holds k α d vs is =
+    let D : Declared = T.the-type α in
+    are-at k (fields D) (D .to d) (valss (fields D) (LL.spells (D .parts) (T′.the-laws α)) (D .to d)) (LL.owed D (T′.the-laws α) d vs is)
+
 abbrev pub block-at : Number
-block-at = record { place = 8; offset = _; of = λ d. d .«block_at»; found = refl; reads = λ d. refl; small = λ α d vs is. LL.owed (T.the-type α) (T′.the-laws α) d vs is .1 .1 .1 .1 .1 .1 .1 .1 .0 .1 }
+block-at = record { place = 8; offset = _; of = λ d. d .«block_at»; found = refl; reads = λ d. refl; small = λ α d vs is. field-holds 8 α d vs is .1 }
 
 abbrev pub block-len : Number
-block-len = record { place = 9; offset = _; of = λ d. d .«block_len»; found = refl; reads = λ d. refl; small = λ α d vs is. LL.owed (T.the-type α) (T′.the-laws α) d vs is .1 .1 .1 .1 .1 .1 .1 .1 .1 .0 .1 }
+block-len = record { place = 9; offset = _; of = λ d. d .«block_len»; found = refl; reads = λ d. refl; small = λ α d vs is. field-holds 9 α d vs is .1 }
 
 abbrev pub data-at : Number
-data-at = record { place = 10; offset = _; of = λ d. d .«data_at»; found = refl; reads = λ d. refl; small = λ α d vs is. LL.owed (T.the-type α) (T′.the-laws α) d vs is .1 .1 .1 .1 .1 .1 .1 .1 .1 .1 .0 .1 }
+data-at = record { place = 10; offset = _; of = λ d. d .«data_at»; found = refl; reads = λ d. refl; small = λ α d vs is. field-holds 10 α d vs is .1 }
 
 abbrev pub data-len : Number
-data-len = record { place = 11; offset = _; of = λ d. d .«data_len»; found = refl; reads = λ d. refl; small = λ α d vs is. LL.owed (T.the-type α) (T′.the-laws α) d vs is .1 .1 .1 .1 .1 .1 .1 .1 .1 .1 .1 .0 .1 }
+data-len = record { place = 11; offset = _; of = λ d. d .«data_len»; found = refl; reads = λ d. refl; small = λ α d vs is. field-holds 11 α d vs is .1 }
 
 abbrev pub mac-at : Number
-mac-at = record { place = 12; offset = _; of = λ d. d .«mac_at»; found = refl; reads = λ d. refl; small = λ α d vs is. LL.owed (T.the-type α) (T′.the-laws α) d vs is .1 .1 .1 .1 .1 .1 .1 .1 .1 .1 .1 .1 .0 .1 }
+mac-at = record { place = 12; offset = _; of = λ d. d .«mac_at»; found = refl; reads = λ d. refl; small = λ α d vs is. field-holds 12 α d vs is .1 }
 
 abbrev pub mac-len : Number
-mac-len = record { place = 13; offset = _; of = λ d. d .«mac_len»; found = refl; reads = λ d. refl; small = λ α d vs is. LL.owed (T.the-type α) (T′.the-laws α) d vs is .1 .1 .1 .1 .1 .1 .1 .1 .1 .1 .1 .1 .1 .0 .1 }
+mac-len = record { place = 13; offset = _; of = λ d. d .«mac_len»; found = refl; reads = λ d. refl; small = λ α d vs is. field-holds 13 α d vs is .1 }
 
 abbrev pub thin : ℕ → ℕ → Fn
 thin i j = record {

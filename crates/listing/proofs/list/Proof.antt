@@ -25,8 +25,11 @@ rest-of : (s : List ℕ) (at : ℕ) → take (length s - at) (drop at s) ≡ dro
 rest-of s at = take-all (length s - at) (drop at s) (simp length-drop (omega arith))
 
 -- where a frame was read: the turn, the place, the capture, and the frame
-abbrev turning : (c : tie.After-struct-known Inv-loop μ-loop) → tie.In-loop Inv-loop μ-loop
-turning c = c .before .before .before .before .before .before .before
+abbrev read : tie.After-struct-known Inv-loop μ-loop → tie.After-parse Inv-loop μ-loop
+read c = c .before .before .before .before .before
+
+abbrev turning : tie.After-struct-known Inv-loop μ-loop → tie.In-loop Inv-loop μ-loop
+turning c = read c .before .before
 
 abbrev place : tie.After-struct-known Inv-loop μ-loop → ℕ
 place c = turning c .before .loop .at
@@ -38,7 +41,7 @@ abbrev frame : tie.After-struct-known Inv-loop μ-loop → Fields
 frame c = fields (c .before .before .before .p .given .0 .0)
 
 found : (c : tie.After-struct-known Inv-loop μ-loop) → parseOf (drop (place c) (all c)) ≡ given (frame c)
-found c = ap parseOf (sym (rest-of (all c) (place c))) ∙ sym (c .before .before .before .before .before .parse .ensures) ∙ ap parsed (c .before .before .before .p .given .1)
+found c = ap parseOf (sym (rest-of (all c) (place c))) ∙ sym (read c .parse .ensures) ∙ ap parsed (c .before .before .before .p .given .1)
 
 inside : (c : tie.After-struct-known Inv-loop μ-loop) → Inside (length (all c) - place c) (frame c)
 inside c = let i = accepted-inside (drop (place c) (all c)) (frame c) (found c) in
@@ -61,11 +64,13 @@ loop-again c =
 
 returns : tie.Need-returns Inv-loop μ-loop
 returns c =
-    let t = c .before .before .before .before .before .before .before in
+    let refused-at = c .before .before .before in
+    let read-at = refused-at .before .before in
+    let t = read-at .before .before in
     let l = t .before .loop in
     let s = t .before .before .before .before .args .capture .now in
-    let e : parseOf (drop (l .at) s) ≡ refusalOf (c .before .before .before .e .given .0 .0) =
-    ap parseOf (sym (rest-of s (l .at))) ∙ sym (c .before .before .before .before .before .parse .ensures) ∙ ap parsed (c .before .before .before .e .given .1) in
+    let e : parseOf (drop (l .at) s) ≡ refusalOf (refused-at .e .given .0 .0) =
+    ap parseOf (sym (rest-of s (l .at))) ∙ sym (read-at .parse .ensures) ∙ ap parsed (refused-at .e .given .1) in
     passed-refused s (l .at) _ _ (t .loop-test .taken) e (l .inv)
 
 returns-2 : tie.Need-returns-2 Inv-loop μ-loop

@@ -1,6 +1,7 @@
 -- The tests as the paper has them, for four bytes of MAC; then the body is written.
 -- Assumes nothing.
 use mathlib.Core.Path.{_≡_, sym, ap, _∙_}
+use mathlib.Core.List.{List}
 use Prim.Native.Nat.{ℕ}
 use borrow.Author.Needs.{needs}
 use native.Mathlib.Omega.{arith}
@@ -18,46 +19,69 @@ use Rattle.packet_build.proofs.Frames.{body-given, body-refused}
 use Rattle.packet_build.proofs.codec.build_body.Statement.{statement}
 use Rattle.packet_build.proofs.codec.build_body.Tie as tie
 
--- the parts that the arguments make, and the paper's tests of them
+-- ---- where the code stood, from where it stands after the next call
+
+abbrev start : tie.After-test-parts → tie.Start
+start c = c .before .before .before .before
+
+abbrev at-tests : tie.After-total → tie.After-test-parts
+at-tests c = c .before .before
+
+abbrev at-total : tie.After-put-body → tie.After-total
+at-total c = c .before .before .before
+
+-- ---- what the tests leave
+
+-- the parts that the arguments make, the buffer, and the paper's tests of them
 abbrev parts : tie.Start → FrameParts
-parts c = partsGiven (c .args .w) (c .args .block .now) (c .args .«data» .now) GivenMac.Absent
+parts s = partsGiven (s .args .w) (s .args .block .now) (s .args .«data» .now) GivenMac.Absent
+
+abbrev buffer : tie.Start → List ℕ
+buffer s = s .args .out .now
 
 abbrev tests : tie.Start → Answer ℕ
-tests c = let p = parts c in testOf (p .ctrl) (sizesOf p 4 (length (c .args .out .now)))
+tests s = let p = parts s in testOf (p .ctrl) (sizesOf p 4 (length (buffer s)))
 
-passed : (c : tie.After-total) → (tests (c .before .before .before .before .before .before) ≡ given (c .total .given .0 .0)) × (c .total .given .0 .1 .0 ≡ ctrlByte (parts (c .before .before .before .before .before .before) .ctrl))
-passed c =
-    with-given (parts (c .before .before .before .before .before .before) .ctrl) (tests (c .before .before .before .before .before .before)) (c .total .given .0 .0) (c .total .given .0 .1 .0)
-    (sym (ap tested (c .total .given .1)) ∙ c .before .before .test-parts .ensures)
+-- how long the frame is, once the tests have passed
+abbrev total : tie.After-total → ℕ
+total d = d .total .given .0 .0
 
-left : (c : tie.After-total) → FineParts (parts (c .before .before .before .before .before .before)) 4 (length (c .before .before .before .before .before .before .args .out .now)) (c .total .given .0 .0)
-left c = fine-parts (parts (c .before .before .before .before .before .before)) 4 (length (c .before .before .before .before .before .before .args .out .now)) (c .total .given .0 .0) (passed c .0)
+passed : (d : tie.After-total) → let s = start (at-tests d) in (tests s ≡ given (total d)) × (d .total .given .0 .1 .0 ≡ ctrlByte (parts s .ctrl))
+passed d =
+    let s = start (at-tests d) in
+    with-given (parts s .ctrl) (tests s) (total d) (d .total .given .0 .1 .0) (sym (ap tested (d .total .given .1)) ∙ at-tests d .test-parts .ensures)
+
+left : (d : tie.After-total) → let s = start (at-tests d) in FineParts (parts s) 4 (length (buffer s)) (total d)
+left d = let s = start (at-tests d) in fine-parts (parts s) 4 (length (buffer s)) (total d) (passed d .0)
 
 put-body-requires : tie.Need-put-body-requires
 put-body-requires c κs =
     let d = c .before .before in
     let f = left d in
-    (passed d .1, f .small, omega (arith, f .most), omega (arith, f .total, f .room, bytesN-is (parts (d .before .before .before .before .before .before) .block)))
+    (passed d .1, f .small, omega (arith, f .most), omega (arith, f .total, f .room, bytesN-is (parts (start (at-tests d)) .block)))
+
+-- ---- the returns
 
 returns : tie.Need-returns
 returns c =
-    let d = c .before .before .before .before .before in
-    let p = parts (d .before .before .before .before .before .before) in
-    let o = d .before .before .before .before .before .before .args .out .now in
-    let total = d .total .given .0 .0 in
     let n = c .before .before .put-body in
-    let e = sym (body-given p (length o) total (passed d .0)) in (
-      ap given (n .ensures .0 ∙ sym (body-length (p .addr) (p .ctrl) (p .block) (p .code) (p .«data») total)) ∙ ap sized e,
+    let d = at-total (c .before .before) in
+    let s = start (at-tests d) in
+    let p = parts s in
+    let o = buffer s in
+    let e = sym (body-given p (length o) (total d) (passed d .0)) in (
+      ap given (n .ensures .0 ∙ sym (body-length (p .addr) (p .ctrl) (p .block) (p .code) (p .«data») (total d))) ∙ ap sized e,
       n .ensures .1 ∙ ap (written o) e,
     )
 
 returns-2 : tie.Need-returns-2
 returns-2 c =
-    let s = c .before .before .before .before .before .before .before in
+    let refused-at = c .before .before .before in
+    let s = start refused-at in
     let p = parts s in
-    let o = s .args .out .now in
+    let o = buffer s in
     let r = c .before .e .given .0 .0 in
-    let h = with-refused (p .ctrl) (tests s) r (sym (ap tested (c .before .e .given .1)) ∙ c .before .before .before .test-parts .ensures) in
+    let h = with-refused (p .ctrl) (tests s) r (sym (ap tested (c .before .e .given .1)) ∙ refused-at .test-parts .ensures) in
     let e = sym (body-refused p (length o) (numberOf r) (valuesOf r) h) in
     (ap sized e, ap (written o) e)
 

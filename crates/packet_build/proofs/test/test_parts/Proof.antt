@@ -18,8 +18,11 @@ use Rattle.packet_build.proofs.test.test_parts.Tie as tie
 abbrev start : tie.After-test → tie.Start
 start c = c .before .before .before .before .before
 
-abbrev start₂ : tie.After-test2 → tie.Start
-start₂ c = c .before .before .before .before .before .before .before
+abbrev kind-known : tie.After-test2 → tie.After-kind
+kind-known c = c .before .before .before
+
+abbrev start₂ : tie.After-kind → tie.Start
+start₂ c = c .before .before .before .before
 
 -- the paper's tests, where the packet's block is b
 abbrev tests : tie.Start → BuildBlock → Answer (ℕ × ℕ)
@@ -33,11 +36,12 @@ returns c = c .test .ensures ∙ ap (tests (start c)) (sym (c .before .enum-told
 
 returns-2 : tie.Need-returns-2
 returns-2 c =
-    let a = start₂ c .args in
+    let s = start₂ (kind-known c) in
+    let a = s .args in
     let k = control (a .w .ctrl) in
     c .test2 .ensures
     ∙ ap (λ (d : Bool). withCtrl k (testOf k (record { hasBlock = true; macDue = d; mac = a .mac; blockData = length (a .block .now); «data» = length (a .«data» .now); room = a .have }))) (c .before .has-mac .ensures)
-    ∙ ap (tests (start₂ c)) (sym (c .before .before .before .kind .given .1))
+    ∙ ap (tests s) (sym (kind-known c .kind .given .1))
 
 pub test-parts-spec : {M : Type 1} → statement M
 test-parts-spec =

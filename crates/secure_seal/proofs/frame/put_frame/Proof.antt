@@ -25,8 +25,11 @@ slice-aggregate-mac c =
 
 add-t28 : tie.Need-add-t28
 add-t28 c =
-    let p = c .before .before .before .before .before .before .before .before .before .before .before in
-    let s = p .before .before .before .before .before .before .before .before .before in
+    let ended = c .before .before .before .before in
+    let m = ended .before .before .before in
+    let p = m .before .before .before .before in
+    let h = p .before .before .before .before in
+    let s = h .before .before .before .before .before in
     let a = s .args in
     let d : p .put-data .result ≤ length (a .«data» .now) + 1 =
     rw (p .put-data .ensures .1) (data-steps (a .encrypt) (a .session .keys .«s_enc») (sendFrom (a .session)) (a .«data» .now)) in
@@ -35,7 +38,8 @@ add-t28 c =
 
 returns : tie.Need-returns
 returns c =
-    let m = c .before .before .before .before .before .before .before in
+    let ended = c .before .before .before .before in
+    let m = ended .before .before .before in
     let f = m .mac .result .block in
     let lf : length f ≡ 16 = search needs in
     let p = m .before .before .before .before in
@@ -52,7 +56,7 @@ returns c =
     g ∙ part-length o₁ 8 (t - 6 - 8) (omega (arith, l₁, s .pre .2, s .pre .4)) ∙ omega (arith, s .pre .2) in
     let made = mac-there (a .session) (s .pre .0) (take (t - 6) (putMid 8 (t - 6 - 8) o₁ y)) (m .mac .result) (m .mac .ensures .0) (m .mac .ensures .1) in
     frame-put (a .session) q (a .out .now) o₁ y _ t (s .pre .2) (s .pre .4) (p .put-data .ensures .0) ly (h .put-head .ensures) (h .before .before .scs-for .ensures)
-    f _ _ (c .mac-calls .result) (p .put-data .result) lf (p .put-data .ensures .1) (c .mac-calls .ensures) (made .0) (made .1) (c .before .before .before .before .put-end .ensures)
+    f _ _ (c .mac-calls .result) (p .put-data .result) lf (p .put-data .ensures .1) (c .mac-calls .ensures) (made .0) (made .1) (ended .put-end .ensures)
 
 pub put-frame-spec : {M : Type 1} → statement M
 put-frame-spec =

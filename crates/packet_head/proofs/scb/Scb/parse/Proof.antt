@@ -4,6 +4,7 @@ use mathlib.Core.Path.{_≡_, sym, ap, _∙_}
 use borrow.Author.Needs.{needs}
 use borrow.Author.Tests.{le-ltb, lt-ltb}
 use native.Mathlib.Omega.{arith}
+use Prim.Native.Nat.{ℕ}
 use lib.ListN.{getD}
 use Rattle.laws.specs.Answer.{Answer.given, andThen, refuseIf}
 use Rattle.refusal.specs.Paper.{refusalOf}
@@ -29,21 +30,36 @@ returns-3 : tie.Need-returns-3
 unfolding scbOf refuseIf
 returns-3 c = rw (le-ltb _ _ (c .before .before .before .if1 .left), le-ltb _ _ (c .before .if2 .left), lt-ltb _ _ (c .if3 .taken))
 
+-- ---- where the code stood once a test had passed, from where it stands after the next one
+
+abbrev fits : tie.After-from-byte → tie.Else3
+fits c = c .before .before
+
+abbrev two-or-more : tie.Else3 → tie.Else2
+two-or-more c = c .before
+
+abbrev two-there : tie.Else2 → tie.Else1
+two-there c = c .before .before
+
+-- the type byte
+abbrev typeByte : tie.After-from-byte → ℕ
+typeByte k = getD (two-there (two-or-more (fits k)) .before .before .args .buf .now) 1 0
+
 returns-4 : tie.Need-returns-4
 unfolding scbOf refuseIf andThen
 returns-4 c =
     let k = c .before .before .before in
-    let e : scsOf (getD (k .before .before .before .before .before .before .before .args .buf .now) 1 0) ≡ given (typeOf (c .before .ty .given .0 .0)) =
-    sym (k .from-byte .ensures) ∙ ap scsAnswer (c .before .ty .given .1) in
-    rw (le-ltb _ _ (k .before .before .before .before .before .if1 .left), le-ltb _ _ (k .before .before .before .if2 .left), le-ltb _ _ (k .before .before .if3 .left), e)
+    let e : scsOf (typeByte k) ≡ given (typeOf (c .before .ty .given .0 .0)) = sym (k .from-byte .ensures) ∙ ap scsAnswer (c .before .ty .given .1) in
+    let l = two-or-more (fits k) in
+    rw (le-ltb _ _ (two-there l .if1 .left), le-ltb _ _ (l .if2 .left), le-ltb _ _ (fits k .if3 .left), e)
 
 returns-5 : tie.Need-returns-5
 unfolding scbOf refuseIf andThen
 returns-5 c =
     let k = c .before .before .before in
-    let e : scsOf (getD (k .before .before .before .before .before .before .before .args .buf .now) 1 0) ≡ refusalOf (c .before .e .given .0 .0) =
-    sym (k .from-byte .ensures) ∙ ap scsAnswer (c .before .e .given .1) in
-    rw (le-ltb _ _ (k .before .before .before .before .before .if1 .left), le-ltb _ _ (k .before .before .before .if2 .left), le-ltb _ _ (k .before .before .if3 .left), e)
+    let e : scsOf (typeByte k) ≡ refusalOf (c .before .e .given .0 .0) = sym (k .from-byte .ensures) ∙ ap scsAnswer (c .before .e .given .1) in
+    let l = two-or-more (fits k) in
+    rw (le-ltb _ _ (two-there l .if1 .left), le-ltb _ _ (l .if2 .left), le-ltb _ _ (fits k .if3 .left), e)
 
 pub parse-spec : {M : Type 1} → statement M
 parse-spec =
