@@ -58,8 +58,8 @@ fn put(w: &mut [u8; 176], at: usize, x: u64, y: u64)
     w[at + 15] = round::low(y >> 56);
 }
 
-// The schedule of a key, for a run of blocks under it.
-pub fn expand(t: &[u8; 256], key: [u8; 16]) -> [u8; 176]
+// The schedule of a key.
+pub(crate) fn expand(t: &[u8; 256], key: [u8; 16]) -> [u8; 176]
     ensures { λ r. ⌜ r ≡ keyExpansion (now (t .entry)) key ⌝ }
 {
     let mut w = [0u8; 176];

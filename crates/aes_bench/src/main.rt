@@ -1,9 +1,9 @@
-// AES-128 for timing from outside. With one argument, a million blocks are enciphered, the key expanded for each; with two, a
-// million are enciphered under one expanded key; with three, deciphered. Without any, a hundred of each. The last block of each
+// AES-128 for timing from outside. With one argument, a million blocks are enciphered, the key made ready for each; with two, a
+// million are enciphered under one key made ready; with three, deciphered. Without any, a hundred of each. The last block of each
 // run goes to standard output.
 use libc::STDOUT_FILENO;
 
-// Each block is enciphered from the one before, the key expanded for each.
+// Each block is enciphered from the one before, the key made ready for each.
 fn expanding(n: usize, key: [u8; 16], block: [u8; 16]) -> [u8; 16] {
     let mut b = block;
     for _ in 0..n {
@@ -13,25 +13,25 @@ fn expanding(n: usize, key: [u8; 16], block: [u8; 16]) -> [u8; 16] {
     b
 }
 
-// The key expanded once for the run.
+// The key made ready once for the run.
 fn enciphering(n: usize, key: [u8; 16], block: [u8; 16]) -> [u8; 16] {
-    let t = aes::forward_table();
-    let w = aes::expand(&t, key);
+    let t = aes::encrypt_tables();
+    let k = aes::encrypt_key(&t, key);
     let mut b = block;
     for _ in 0..n {
-        let e = aes::encrypt_with(&w, &t, b);
+        let e = aes::encrypt(&t, &k, b);
         b = e;
     }
     b
 }
 
 fn deciphering(n: usize, key: [u8; 16], block: [u8; 16]) -> [u8; 16] {
-    let t = aes::forward_table();
-    let w = aes::expand(&t, key);
-    let v = aes::inverse_table();
+    let t = aes::encrypt_tables();
+    let k = aes::decrypt_key(&t, key);
+    let u = aes::decrypt_tables();
     let mut b = block;
     for _ in 0..n {
-        let e = aes::decrypt_with(&w, &v, b);
+        let e = aes::decrypt(&u, &k, b);
         b = e;
     }
     b

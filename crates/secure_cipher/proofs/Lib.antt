@@ -1,6 +1,5 @@
 pub mod PadLaws
 pub mod Pasted
-pub mod Keyed
 pub mod Turns
 pub mod MacLaws
 pub mod CbcLaws

@@ -46,13 +46,13 @@ fn encrypt_blocks(key: [u8; 16], iv: [u8; 16], data: &[u8], out: &mut [u8]) -> u
     requires { ⌜ (length (now «data») / 16 + 1) * 16 ≤ length (now out) ⌝ }
     ensures { λ r. ⌜ (now (out .exit) ≡ write (now (out .entry)) 0 (hide key iv (now («data» .entry)) .bytes)) × (r ≡ hide key iv (now («data» .entry)) .steps) ⌝ }
 {
-    let t = aes::forward_table();
-    let w = aes::expand(&t, key);
+    let t = aes::encrypt_tables();
+    let k = aes::encrypt_key(&t, key);
     let n = data.len() / 16 + 1;
     let mut v = iv;
     for i in 0..n {
         let x = block::xor(data_block(data, i * 16), v);
-        let c = aes::encrypt_with(&w, &t, x);
+        let c = aes::encrypt(&t, &k, x);
         block::put(out, i * 16, c);
         v = c;
     }
@@ -85,14 +85,14 @@ fn decrypt_blocks(key: [u8; 16], iv: [u8; 16], ct: &[u8], out: &mut [u8]) -> usi
     requires { ⌜ (length (now ct) % 16 ≡ 0) × (length (now ct) ≤ length (now out)) ⌝ }
     ensures { λ r. ⌜ Deciphered (decRun key iv (blocks (now (ct .entry)))) (length (now (ct .entry))) (now (out .entry)) (now (out .exit)) r ⌝ }
 {
-    let t = aes::forward_table();
-    let w = aes::expand(&t, key);
-    let u = aes::inverse_table();
+    let t = aes::encrypt_tables();
+    let k = aes::decrypt_key(&t, key);
+    let u = aes::decrypt_tables();
     let n = ct.len() / 16;
     let mut v = iv;
     for i in 0..n {
         let b = block::block_at(ct, i * 16);
-        let x = block::xor(aes::decrypt_with(&w, &u, b), v);
+        let x = block::xor(aes::decrypt(&u, &k, b), v);
         block::put(out, i * 16, x);
         v = b;
     }

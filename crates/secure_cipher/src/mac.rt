@@ -3,7 +3,7 @@ ghost use mathlib.Core.Path.{_≡_};
 ghost use Prim.Native.Nat.{_-_, _*_, _/_, _≤_, _<_};
 ghost use lib.ListN.{length, take, drop};
 ghost use Rattle.laws.specs.Blocks.{cut};
-ghost use Rattle.aes_field.specs.Sbox.{SBOX};
+ghost use Rattle.aes.specs.Ready.{encryptTables};
 ghost use Rattle.secure_cipher.specs.Pad.{padMac};
 ghost use Rattle.secure_cipher.specs.Mac.{macOf, macCalls, macTold};
 ghost use Rattle.secure_cipher.specs.Parts.{chained};
@@ -16,19 +16,19 @@ pub struct ChainMac {
     pub calls: usize,
 }
 
-// The chain value after the first n blocks of s, each XORed in and enciphered with `key`. Of no block no key is expanded.
-fn chain(t: &[u8; 256], key: [u8; 16], icv: [u8; 16], s: &[u8], n: usize) -> [u8; 16]
-    requires { ⌜ (n * 16 ≤ length (now s)) × (now t ≡ SBOX) ⌝ }
+// The chain value after the first n blocks of s, each XORed in and enciphered with `key`. Of no block no key is made ready.
+fn chain(t: &aes::EncryptTables, key: [u8; 16], icv: [u8; 16], s: &[u8], n: usize) -> [u8; 16]
+    requires { ⌜ (n * 16 ≤ length (now s)) × (now t ≡ encryptTables) ⌝ }
     ensures { λ r. ⌜ r ≡ chained key icv (cut n (now (s .entry))) ⌝ }
 {
     if n == 0 {
         return icv;
     }
-    let w = aes::expand(t, key);
+    let k = aes::encrypt_key(t, key);
     let mut v = icv;
     for i in 0..n {
         let x = block::xor(v, block::block_at(s, i * 16));
-        let c = aes::encrypt_with(&w, t, x);
+        let c = aes::encrypt(t, &k, x);
         v = c;
     }
     v
@@ -55,11 +55,11 @@ pub fn cbc_mac(input: &[u8], icv: [u8; 16], s_mac1: [u8; 16], s_mac2: [u8; 16]) 
             calls: 0,
         };
     }
-    let t = aes::forward_table();
+    let t = aes::encrypt_tables();
     let before = (input.len() - 1) / 16;
     let v = chain(&t, s_mac1, icv, input, before);
-    let w = aes::expand(&t, s_mac2);
-    let full = aes::encrypt_with(&w, &t, block::xor(v, last_mac_block(input)));
+    let k = aes::encrypt_key(&t, s_mac2);
+    let full = aes::encrypt(&t, &k, block::xor(v, last_mac_block(input)));
     ChainMac {
         full,
         calls: before + 1,

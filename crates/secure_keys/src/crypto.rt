@@ -2,7 +2,8 @@
 ghost use mathlib.Core.Path.{_≡_};
 ghost use mathlib.Core.List.{_++_};
 ghost use Rattle.laws.specs.Bytes.{compl};
-ghost use Rattle.aes.specs.Cipher.{cipher, E, D};
+ghost use Rattle.aes.specs.Cipher.{E, D};
+ghost use Rattle.aes.specs.Ready.{enciphered};
 ghost use Rattle.secure_keys.specs.Keys.{template, derive, clientOf, serverOf, firstOf, legacyOf};
 
 pub fn aes128_encrypt(key: [u8; 16], block: [u8; 16]) -> [u8; 16]
@@ -41,11 +42,11 @@ fn key_template(tag: u8, a: [u8; 8]) -> [u8; 16]
     ]
 }
 
-// The key of a tag, over the schedule of SCBK.
-fn session_key(w: &[u8; 176], t: &[u8; 256], tag: u8, a: [u8; 8]) -> [u8; 16]
-    ensures { λ r. ⌜ r ≡ cipher (now (t .entry)) (now (w .entry)) (template tag a) ⌝ }
+// The key of a tag, under SCBK made ready.
+fn session_key(t: &aes::EncryptTables, k: &aes::EncryptKey, tag: u8, a: [u8; 8]) -> [u8; 16]
+    ensures { λ r. ⌜ r ≡ enciphered (now (t .entry)) (now (k .entry)) (template tag a) ⌝ }
 {
-    aes::encrypt_with(w, t, key_template(tag, a))
+    aes::encrypt(t, k, key_template(tag, a))
 }
 
 pub struct SessionKeys {
@@ -55,15 +56,15 @@ pub struct SessionKeys {
 }
 
 impl SessionKeys {
-    // SCBK is expanded once for the three blocks.
+    // SCBK is made ready once for the three blocks.
     pub fn derive(scbk: [u8; 16], rnd_a: [u8; 8]) -> Self
         ensures { λ r. ⌜ r ≡ derive scbk «rnd_a» ⌝ }
     {
-        let t = aes::forward_table();
-        let w = aes::expand(&t, scbk);
-        let s_enc = session_key(&w, &t, 0x82, rnd_a);
-        let s_mac1 = session_key(&w, &t, 0x01, rnd_a);
-        let s_mac2 = session_key(&w, &t, 0x02, rnd_a);
+        let t = aes::encrypt_tables();
+        let k = aes::encrypt_key(&t, scbk);
+        let s_enc = session_key(&t, &k, 0x82, rnd_a);
+        let s_mac1 = session_key(&t, &k, 0x01, rnd_a);
+        let s_mac2 = session_key(&t, &k, 0x02, rnd_a);
         SessionKeys {
             s_enc,
             s_mac1,

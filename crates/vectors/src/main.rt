@@ -25,109 +25,12 @@ fn deciphers(key: &[u8; 16], plain: &[u8; 16], cipher: &[u8; 16]) -> u64
     hit(&got, plain)
 }
 
-// How many of the four words of round key r are those wanted.
-fn words(w: &[u8], r: usize, want: &[u8]) -> u64
-    requires { ⌜ (r ≤ 10) × ((length (now w) ≡ 176) × (length (now want) ≡ 16)) ⌝ }
-    ensures { λ r. ⌜ r ≤ 4 ⌝ }
-{
-    let at = 16 * r;
-    let a = hit(&w[at..at + 4], &want[0..4]);
-    let b = hit(&w[at + 4..at + 8], &want[4..8]);
-    let c = hit(&w[at + 8..at + 12], &want[8..12]);
-    let d = hit(&w[at + 12..at + 16], &want[12..16]);
-    a + b + c + d
-}
-
 fn tell(group: &[u8], hits: u64, of: u64) {
     io::write_all(STDOUT_FILENO, group);
     io::print_decimal(STDOUT_FILENO, hits);
     io::write_all(STDOUT_FILENO, b" of ");
     io::print_decimal(STDOUT_FILENO, of);
     io::write_all(STDOUT_FILENO, b"\n");
-}
-
-// The words 0 to 23 of A.1.
-fn early_words(w: &[u8]) -> u64
-    requires { ⌜ length (now w) ≡ 176 ⌝ }
-    ensures { λ r. ⌜ r ≤ 24 ⌝ }
-{
-    let k0 = words(
-        w,
-        0,
-        b"\x2b\x7e\x15\x16\x28\xae\xd2\xa6\xab\xf7\x15\x88\x09\xcf\x4f\x3c",
-    );
-    let k1 = words(
-        w,
-        1,
-        b"\xa0\xfa\xfe\x17\x88\x54\x2c\xb1\x23\xa3\x39\x39\x2a\x6c\x76\x05",
-    );
-    let k2 = words(
-        w,
-        2,
-        b"\xf2\xc2\x95\xf2\x7a\x96\xb9\x43\x59\x35\x80\x7a\x73\x59\xf6\x7f",
-    );
-    let k3 = words(
-        w,
-        3,
-        b"\x3d\x80\x47\x7d\x47\x16\xfe\x3e\x1e\x23\x7e\x44\x6d\x7a\x88\x3b",
-    );
-    let k4 = words(
-        w,
-        4,
-        b"\xef\x44\xa5\x41\xa8\x52\x5b\x7f\xb6\x71\x25\x3b\xdb\x0b\xad\x00",
-    );
-    let k5 = words(
-        w,
-        5,
-        b"\xd4\xd1\xc6\xf8\x7c\x83\x9d\x87\xca\xf2\xb8\xbc\x11\xf9\x15\xbc",
-    );
-    k0 + k1 + k2 + k3 + k4 + k5
-}
-
-// The words 24 to 43.
-fn late_words(w: &[u8]) -> u64
-    requires { ⌜ length (now w) ≡ 176 ⌝ }
-    ensures { λ r. ⌜ r ≤ 20 ⌝ }
-{
-    let k6 = words(
-        w,
-        6,
-        b"\x6d\x88\xa3\x7a\x11\x0b\x3e\xfd\xdb\xf9\x86\x41\xca\x00\x93\xfd",
-    );
-    let k7 = words(
-        w,
-        7,
-        b"\x4e\x54\xf7\x0e\x5f\x5f\xc9\xf3\x84\xa6\x4f\xb2\x4e\xa6\xdc\x4f",
-    );
-    let k8 = words(
-        w,
-        8,
-        b"\xea\xd2\x73\x21\xb5\x8d\xba\xd2\x31\x2b\xf5\x60\x7f\x8d\x29\x2f",
-    );
-    let k9 = words(
-        w,
-        9,
-        b"\xac\x77\x66\xf3\x19\xfa\xdc\x21\x28\xd1\x29\x41\x57\x5c\x00\x6e",
-    );
-    let k10 = words(
-        w,
-        10,
-        b"\xd0\x14\xf9\xa8\xc9\xee\x25\x89\xe1\x3f\x0c\xc8\xb6\x63\x0c\xa6",
-    );
-    k6 + k7 + k8 + k9 + k10
-}
-
-fn key_expansion() {
-    let t = aes::forward_table();
-    let w = aes::expand(
-        &t,
-        *b"\x2b\x7e\x15\x16\x28\xae\xd2\xa6\xab\xf7\x15\x88\x09\xcf\x4f\x3c",
-    );
-    tell(
-        b"FIPS 197 A.1, words: ",
-        early_words(&w) + late_words(&w),
-        44,
-    );
 }
 
 fn cipher_example() {
@@ -202,7 +105,6 @@ fn cbc() {
 }
 
 fn main() {
-    key_expansion();
     cipher_example();
     example_vectors();
     ecb();

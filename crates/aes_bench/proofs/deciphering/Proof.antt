@@ -7,10 +7,10 @@ use Rattle.aes_bench.proofs.deciphering.Statement.{statement}
 use Rattle.aes_bench.proofs.deciphering.Tie as tie
 
 abbrev Inv-loop : tie.InvT-loop
-Inv-loop n w v b₀ counter₀ b counter = counter ≤ n
+Inv-loop n k u b₀ counter₀ b counter = counter ≤ n
 
 abbrev μ-loop : tie.MeasureT-loop
-μ-loop n w v b₀ counter₀ b counter = n - counter
+μ-loop n k u b₀ counter₀ b counter = n - counter
 
 pub deciphering-spec : {M : Type 1} → statement M
 deciphering-spec =

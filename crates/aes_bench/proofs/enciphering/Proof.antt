@@ -7,10 +7,10 @@ use Rattle.aes_bench.proofs.enciphering.Statement.{statement}
 use Rattle.aes_bench.proofs.enciphering.Tie as tie
 
 abbrev Inv-loop : tie.InvT-loop
-Inv-loop n t w b₀ counter₀ b counter = counter ≤ n
+Inv-loop n t k b₀ counter₀ b counter = counter ≤ n
 
 abbrev μ-loop : tie.MeasureT-loop
-μ-loop n t w b₀ counter₀ b counter = n - counter
+μ-loop n t k b₀ counter₀ b counter = n - counter
 
 pub enciphering-spec : {M : Type 1} → statement M
 enciphering-spec =

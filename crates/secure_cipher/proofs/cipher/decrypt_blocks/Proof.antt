@@ -10,18 +10,19 @@ use Rattle.laws.specs.Bytes.{xorl}
 use Rattle.laws.specs.Blocks.{blocks}
 use Rattle.laws.specs.Over.{write}
 use Rattle.laws.proofs.BlockLists.{length-blocks}
-use Rattle.secure_cipher.proofs.Keyed.{Schedule, schedule, deciphered}
+use Rattle.aes.specs.Ready.{encryptTables, decryptKey}
+use Rattle.aes.proofs.Laws.{deciphers}
 use Rattle.secure_cipher.proofs.CbcLaws.{dec-steps}
 use Rattle.secure_cipher.proofs.CbcLoop.{Laid, laid-none, laid-more, laid-size, laid-all, decRest, dec-more, dec-none, dec-all}
 use Rattle.secure_cipher.proofs.cipher.decrypt_blocks.Statement.{statement}
 use Rattle.secure_cipher.proofs.cipher.decrypt_blocks.Tie as tie
 
 abbrev Inv-loop : tie.InvT-loop
-Inv-loop ct out₀ w u n v₀ i₀ out v i =
-    (i ≤ n) × ((length out ≡ length out₀) × ((k : List ℕ) → Schedule w k → Laid out₀ (i * 16) (decRest k ct n i v) (decRest k ct n 0 v₀) out))
+Inv-loop ct out₀ ready u n v₀ i₀ out v i =
+    (i ≤ n) × ((length out ≡ length out₀) × ((k : List ℕ) → ready ≡ decryptKey encryptTables k → Laid out₀ (i * 16) (decRest k ct n i v) (decRest k ct n 0 v₀) out))
 
 abbrev μ-loop : tie.MeasureT-loop
-μ-loop ct out₀ w u n v₀ i₀ out v i = n - i
+μ-loop ct out₀ ready u n v₀ i₀ out v i = n - i
 
 loop-again : tie.Need-loop-again Inv-loop μ-loop
 loop-again c =
@@ -41,7 +42,7 @@ loop-again c =
         λ k h.
             laid-more x _ _ ((l .i + 1) * 16) m (omega arith) (omega arith)
             (cc (dec-more k p n (l .i) (l .v) b x (d .before .loop-test .taken) (d .block-at .ensures)
-            (e .xor .ensures ∙ ap (λ (y : List ℕ). xorl y (l .v)) (deciphered _ _ k b _ (s .inverse-table .ensures) h (e .before .decrypt-with .ensures)))))
+            (e .xor .ensures ∙ ap (λ (y : List ℕ). xorl y (l .v)) (deciphers encryptTables _ _ k b _ refl (s .decrypt-tables .ensures) h (e .before .decrypt .ensures)))))
             (c .before .before .put .ensures) (l .inv .1 .1 k h),
       ),
     )
@@ -53,7 +54,7 @@ returns c =
     let a = s .before .before .before .before .before .before .args in
     let p = a .ct .now in
     let n = length p / 16 in
-    let h : Schedule (s .before .expand .result) (a .key) = schedule _ _ (a .key) (s .before .before .before .forward-table .ensures) (s .before .expand .ensures) in
+    let h : s .before .decrypt-key .result ≡ decryptKey encryptTables (a .key) = cc in
     let q = l .inv .1 .1 (a .key) h in
     let z = dec-none (a .key) p n (l .i) (l .v) (c .loop-test .left) in
     let d = dec-all (a .key) p n (a .iv) refl in

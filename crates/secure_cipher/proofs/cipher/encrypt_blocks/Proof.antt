@@ -9,19 +9,20 @@ use lib.ListN.{length, take, drop}
 use Rattle.laws.specs.Bytes.{xorl}
 use Rattle.laws.specs.Over.{write}
 use Rattle.aes.specs.Cipher.{E}
+use Rattle.aes.specs.Ready.{encryptKey}
+use Rattle.aes.proofs.Laws.{enciphers}
 use Rattle.secure_cipher.specs.Pad.{padData}
-use Rattle.secure_cipher.proofs.Keyed.{Schedule, schedule, enciphered}
 use Rattle.secure_cipher.proofs.CbcLaws.{steps-hide}
 use Rattle.secure_cipher.proofs.CbcLoop.{Laid, laid-none, laid-more, laid-all, encRest, enc-more, enc-none, enc-all}
 use Rattle.secure_cipher.proofs.cipher.encrypt_blocks.Statement.{statement}
 use Rattle.secure_cipher.proofs.cipher.encrypt_blocks.Tie as tie
 
 abbrev Inv-loop : tie.InvT-loop
-Inv-loop «data» out₀ t w n v₀ i₀ out v i =
-    (i ≤ n) × ((length out ≡ length out₀) × ((k : List ℕ) → Schedule w k → Laid out₀ (i * 16) (encRest k (padData «data») n i v) (encRest k (padData «data») n 0 v₀) out))
+Inv-loop «data» out₀ t ready n v₀ i₀ out v i =
+    (i ≤ n) × ((length out ≡ length out₀) × ((k : List ℕ) → ready ≡ encryptKey t k → Laid out₀ (i * 16) (encRest k (padData «data») n i v) (encRest k (padData «data») n 0 v₀) out))
 
 abbrev μ-loop : tie.MeasureT-loop
-μ-loop «data» out₀ t w n v₀ i₀ out v i = n - i
+μ-loop «data» out₀ t ready n v₀ i₀ out v i = n - i
 
 loop-again : tie.Need-loop-again Inv-loop μ-loop
 loop-again c =
@@ -32,7 +33,7 @@ loop-again c =
     let a = s .before .before .before .args in
     let p = padData (a .«data» .now) in
     let n = length (a .«data» .now) / 16 + 1 in
-    let b = e .encrypt-with .result in
+    let b = e .encrypt .result in
     let m : length b ≡ 16 = search needs in
     let x : e .before .before .before .xor .result ≡ xorl (take 16 (drop (l .i * 16) p)) (l .v) =
     e .before .before .before .xor .ensures ∙ ap (λ (y : List ℕ). xorl y (l .v)) (d .data-block .ensures) in (
@@ -41,7 +42,7 @@ loop-again c =
         search needs,
         λ k h.
             laid-more b _ _ ((l .i + 1) * 16) m (omega arith) (omega arith)
-            (cc (enc-more k p n (l .i) (l .v) b (d .before .loop-test .taken) (enciphered _ _ k _ b (s .forward-table .ensures) h (e .encrypt-with .ensures) ∙ ap (E k) x)))
+            (cc (enc-more k p n (l .i) (l .v) b (d .before .loop-test .taken) (enciphers _ _ k _ b (s .encrypt-tables .ensures) h (e .encrypt .ensures) ∙ ap (E k) x)))
             (c .before .before .put .ensures) (l .inv .1 .1 k h),
       ),
     )
@@ -53,7 +54,7 @@ returns c =
     let a = s .before .before .before .args in
     let x = a .«data» .now in
     let n = length x / 16 + 1 in
-    let h : Schedule (c .before .before .expand .result) (a .key) = schedule _ _ (a .key) (s .forward-table .ensures) (c .before .before .expand .ensures) in (
+    let h = c .before .before .encrypt-key .ensures in (
       laid-all (l .inv .1 .1 (a .key) h) (enc-none (a .key) (padData x) n (l .i) (l .v) (c .loop-test .left)) ∙ ap (write (a .out .now) 0) (enc-all (a .key) x n (a .iv) refl),
       sym (steps-hide (a .key) (a .iv) x),
     )

@@ -9,17 +9,18 @@ use lib.ListN.{take, drop}
 use Rattle.laws.specs.Bytes.{xorl}
 use Rattle.laws.specs.Blocks.{cut}
 use Rattle.aes.specs.Cipher.{E}
+use Rattle.aes.specs.Ready.{encryptKey}
+use Rattle.aes.proofs.Laws.{enciphers}
 use Rattle.secure_cipher.specs.Parts.{chained}
-use Rattle.secure_cipher.proofs.Keyed.{Schedule, schedule, enciphered}
 use Rattle.secure_cipher.proofs.MacLaws.{chainedFrom, chain-zero, chain-begin, chain-step, chain-end}
 use Rattle.secure_cipher.proofs.mac.chain.Statement.{statement}
 use Rattle.secure_cipher.proofs.mac.chain.Tie as tie
 
 abbrev Inv-loop : tie.InvT-loop
-Inv-loop t s n w v₀ i₀ v i = (i ≤ n) × ((k : List ℕ) → Schedule w k → chainedFrom k s n i v ≡ chained k v₀ (cut n s))
+Inv-loop t s n ready v₀ i₀ v i = (i ≤ n) × ((k : List ℕ) → ready ≡ encryptKey t k → chainedFrom k s n i v ≡ chained k v₀ (cut n s))
 
 abbrev μ-loop : tie.MeasureT-loop
-μ-loop t s n w v₀ i₀ v i = n - i
+μ-loop t s n ready v₀ i₀ v i = n - i
 
 loop-again : tie.Need-loop-again Inv-loop μ-loop
 loop-again c =
@@ -29,8 +30,8 @@ loop-again c =
     c .before .before .xor .ensures ∙ ap (xorl (l .v)) (c .before .before .before .block-at .ensures) in (
       omega arith,
       λ k h.
-          chain-step k (a .s .now) (a .n) (l .i) (l .v) (c .encrypt-with .result) (c .before .before .before .before .loop-test .taken)
-          (enciphered (a .t .now) _ k _ _ (c .before .before .before .before .before .before .before .before .before .pre .1) h (c .encrypt-with .ensures) ∙ ap (E k) x)
+          chain-step k (a .s .now) (a .n) (l .i) (l .v) (c .encrypt .result) (c .before .before .before .before .loop-test .taken)
+          (enciphers (a .t .now) _ k _ _ (c .before .before .before .before .before .before .before .before .before .pre .1) h (c .encrypt .ensures) ∙ ap (E k) x)
           ∙ l .inv .1 k h,
     )
 
@@ -39,7 +40,7 @@ returns-2 c =
     let l = c .before .loop in
     let a = c .before .before .before .before .before .args in
     chain-end (a .key) (a .s .now) (a .n) (l .i) (l .v) (omega arith)
-    ∙ l .inv .1 (a .key) (schedule (a .t .now) _ (a .key) (c .before .before .before .before .before .pre .1) (c .before .before .expand .ensures))
+    ∙ l .inv .1 (a .key) (c .before .before .encrypt-key .ensures)
 
 pub chain-spec : {M : Type 1} → statement M
 chain-spec =
