@@ -73,17 +73,15 @@ fn test(ctrl: ControlByte, z: Sizes) -> Tested
         + z.data
         + z.mac
         + trailer_len(ctrl.crc);
+    let have = z.room;
     if MAX_LEN < total {
         return Tested::Refused(Refusal::BufferOverflow {
             need: total,
             have: MAX_LEN,
         });
     }
-    if z.room < total {
-        return Tested::Refused(Refusal::NoRoom {
-            need: total,
-            have: z.room,
-        });
+    if have < total {
+        return Tested::Refused(Refusal::NoRoom { need: total, have });
     }
     Tested::Total(total, byte)
 }

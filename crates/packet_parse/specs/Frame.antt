@@ -95,7 +95,7 @@ fieldsOf f addr ctrl block at mac t =
 
 -- ---- the tests of a frame f that is as long as its LEN says
 
--- no room for code and trailer; no room for the MAC; the trailer
+-- what follows the block, or the head without one, with its code at `at`: no room for code and trailer; no room for the MAC; the trailer
 unfoldable pub restOf : List ℕ → ℕ → Control → BlockAt → ℕ → Bool → Answer Fields
 restOf f addr ctrl block at mac =
     refuseIf (ltb (length f) (at + «CODE_LEN» + trailerLen (ctrl .crc))) 4 (length f ∷ length f ∷ [])

@@ -79,7 +79,7 @@ returns-5 c =
 
 returns-6 : tie.Need-returns-6
 returns-6 c =
-    let s = c .before .before .before in
+    let s = c .before .before in
     let t = summed s in
     let m = mac-matched (short-block s) in
     let d = flagged m in
@@ -88,7 +88,7 @@ returns-6 c =
 
 returns-7 : tie.Need-returns-7
 returns-7 c =
-    let s = c .before .before .before in
+    let s = c .before .before in
     let t = summed s in
     let m = mac-matched (short-block s) in
     let d = flagged m in
