@@ -3,7 +3,6 @@
 use mathlib.Core.Path.{_≡_, refl}
 use Rattle.refusal.specs.declared.Outcome.{Outcome}
 use Rattle.refusal.specs.Reading.{outcomeAnswer}
-use Rattle.secure_cipher.specs.Cbc.{Done}
 use Rattle.crossing.specs.Answers.{cYes, cOutcome}
 
 -- an outcome says yes or the refusal, whatever stands beside it

@@ -48,8 +48,8 @@ stateArg n =
 abbrev pub keysArg : CKeys → SessionKeys
 keysArg k = record { «s_enc» = k .«s_enc»; «s_mac1» = k .«s_mac1»; «s_mac2» = k .«s_mac2» }
 
--- What C holds, as a session has it. C's fields and a session's meet here and in `cFields` alone; the wipe (`cWiped`) writes all of C's
--- fields a third time, since a session that cannot be read can be wiped too.
+-- What C holds, as a session has it. C's fields and a session's meet here and in `cFields` alone; the wipe (`cWiped` of `ffi`) writes
+-- all of C's fields a third time, since a session that cannot be read can be wiped too.
 abbrev pub fieldsArg : CSession → End → State → SessionFields
 fieldsArg c e t =
     record { end = e; state = t; scbk = c .scbk; «rnd_a» = c .«rnd_a»; «rnd_b» = c .«rnd_b»; cuid = c .cuid; keys = keysArg (c .keys); chain = record { value = c .chain } }
