@@ -1,3 +1,4 @@
+mod Ends
 pub mod Answered
 pub mod Asked
 pub mod InAndOut

@@ -29,6 +29,7 @@ use Rattle.crossing.specs.declared.session.CSteppedBlock.{CSteppedBlock}
 use Rattle.crossing.specs.declared.session.CBlockAnswer.{CBlockAnswer}
 use Rattle.crossing.specs.declared.session.EndRead.{EndRead}
 use Rattle.crossing.specs.declared.session.StateRead.{StateRead}
+use Rattle.crossing.specs.declared.session.Ends.{Ends}
 use Rattle.crossing.specs.declared.session.Taken.{Taken}
 use Rattle.crossing.specs.declared.session.CKeysAnswer.{CKeysAnswer}
 
@@ -47,6 +48,15 @@ stateArg n =
 
 abbrev pub keysArg : CKeys → SessionKeys
 keysArg k = record { «s_enc» = k .«s_enc»; «s_mac1» = k .«s_mac1»; «s_mac2» = k .«s_mac2» }
+
+-- the end, then the state
+unfoldable pub endsArg : ℕ → ℕ → Answer (End × State)
+endsArg e t = andThen (endArg e) (λ x. andThen (stateArg t) (λ y. given (x, y)))
+
+-- those that stand beside the outcome
+abbrev pub endsBeside : Answer (End × State) → End × State
+endsBeside (given p) = p
+endsBeside (refused n vs) = (Controller, Disconnected)
 
 -- What C holds, as a session has it. C's fields and a session's meet here and in `cFields` alone; the wipe (`cWiped` of `ffi`) writes
 -- all of C's fields a third time, since a session that cannot be read can be wiped too.
@@ -98,6 +108,9 @@ endRead (EndRead.Refused e) = refusalOf e
 abbrev pub stateRead : StateRead → Answer State
 stateRead (StateRead.Good t) = given t
 stateRead (StateRead.Refused e) = refusalOf e
+
+abbrev pub endsRead : Ends → Answer (End × State)
+endsRead r = outcomeAnswer (r .outcome) (r .end, r .state)
 
 abbrev pub taken : Taken → Answer Session
 taken r = outcomeAnswer (r .outcome) (r .session)

@@ -4,7 +4,7 @@ ghost use Rattle.refusal.specs.Paper.{refusalOf};
 ghost use Rattle.secure_session.specs.declared.session.End.the-variants.{Controller};
 ghost use Rattle.secure_session.specs.declared.session.State.the-variants.{Disconnected};
 ghost use Rattle.secure_session.specs.Handshake.{stepped};
-ghost use Rattle.crossing.specs.Sessions.{endArg, stateArg, fieldsArg, cFields, sessionWith, sessionArg, sessionBeside, endRead, stateRead, taken, cSession, cStepped, toldBlock, toldAnswer, toldKeys};
+ghost use Rattle.crossing.specs.Sessions.{endArg, stateArg, fieldsArg, cFields, sessionWith, sessionArg, sessionBeside, endsArg, endsBeside, endsRead, endRead, stateRead, taken, cSession, cStepped, toldBlock, toldAnswer, toldKeys};
 use super::answer::CAnswer;
 use super::answer::outcome_c;
 use super::keys::CKeys;
@@ -74,6 +74,13 @@ pub(crate) enum StateRead {
     Refused(Refusal),
 }
 
+// Beside a refusal stand those of a controller that is Disconnected.
+pub(crate) struct Ends {
+    pub(crate) outcome: Outcome,
+    pub(crate) end: End,
+    pub(crate) state: State,
+}
+
 // Beside a refusal stands what C holds, as that of a controller that is Disconnected; it is not looked at.
 pub struct Taken {
     pub outcome: Outcome,
@@ -140,34 +147,45 @@ fn session_with(c: CSession, end: End, state: State) -> Session
     Session::door_in(fields_of(c, end, state))
 }
 
-fn not_taken(c: CSession, e: Refusal) -> Taken
-    ensures { λ r. ⌜ taken r ≡ refusalOf e ⌝ }
-    ensures { λ r. ⌜ r .session ≡ sessionWith c Controller Disconnected ⌝ }
+fn no_ends(e: Refusal) -> Ends
+    ensures { λ r. ⌜ r ≡ record { outcome = Outcome.Refused e; end = Controller; state = Disconnected } ⌝ }
 {
-    let none = session_with(c, End::Controller, State::Disconnected);
-    Taken {
+    Ends {
         outcome: Outcome::Refused(e),
-        session: none,
+        end: End::Controller,
+        state: State::Disconnected,
     }
 }
 
+// The end first, then the state.
+fn ends_of(end: u8, state: u8) -> Ends
+    ensures { λ r. ⌜ endsRead r ≡ endsArg end state ⌝ }
+    ensures { λ r. ⌜ (r .end, r .state) ≡ endsBeside (endsArg end state) ⌝ }
+{
+    match end_of(end) {
+        EndRead::Good(end) => match state_of(state) {
+            StateRead::Good(state) => Ends {
+                outcome: Outcome::Done,
+                end,
+                state,
+            },
+            StateRead::Refused(e) => no_ends(e),
+        },
+        EndRead::Refused(e) => no_ends(e),
+    }
+}
+
+// The session is made in one place, whatever was read, so that it is copied once.
 pub fn take(c: CSession) -> Taken
     ensures { λ r. ⌜ taken r ≡ sessionArg c ⌝ }
     ensures { λ r. ⌜ r .session ≡ sessionBeside c (sessionArg c) ⌝ }
 {
-    match end_of(c.end) {
-        EndRead::Good(end) => match state_of(c.state) {
-            StateRead::Good(state) => {
-                let session = session_with(c, end, state);
-                Taken {
-                    outcome: Outcome::Done,
-                    session,
-                }
-            }
-            StateRead::Refused(e) => not_taken(c, e),
-        },
-        EndRead::Refused(e) => not_taken(c, e),
-    }
+    let ends = ends_of(c.end, c.state);
+    let end = ends.end;
+    let state = ends.state;
+    let outcome = ends.outcome;
+    let session = session_with(c, end, state);
+    Taken { outcome, session }
 }
 
 // What a session holds, as C has it.

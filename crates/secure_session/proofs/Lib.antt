@@ -1,4 +1,5 @@
 mod Cases
+mod Four
 mod ChannelCases
 pub mod Settled
 pub mod SessionLaws

@@ -2,6 +2,7 @@
 ghost use mathlib.Core.Path.{_≡_};
 ghost use Rattle.secure_session.specs.Chain.{noChain, firstChain, sendFrom, recvFrom, sent, received};
 use super::session::Session;
+use secure_cipher::ChainMac;
 
 // The last full MAC, of whichever end.
 pub struct Chain {
@@ -52,11 +53,12 @@ impl Session {
     }
 
     // After a MAC was found right.
-    pub(crate) fn received(self, full: [u8; 16]) -> Session
-        ensures { λ r. ⌜ r ≡ received self full ⌝ }
+    pub(crate) fn received(self, m: ChainMac) -> Session
+        ensures { λ r. ⌜ r ≡ received self (m .full) ⌝ }
     {
         let mut s = self;
-        let chain = Chain { value: full };
+        let value = m.full;
+        let chain = Chain { value };
         s.chain = chain;
         s
     }

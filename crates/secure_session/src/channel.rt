@@ -1,5 +1,8 @@
 // What a session that is Secure does to bytes, at either end.
 ghost use mathlib.Core.Path.{_≡_};
+ghost use Prim.Native.Nat.{_+_, _*_};
+ghost use lib.ListN.{take};
+ghost use Rattle.laws.specs.Bytes.{eql};
 ghost use Rattle.secure_cipher.specs.Cbc.{cipherTold};
 ghost use Rattle.secure_session.specs.Chain.{sendFrom, recvFrom, sent, received};
 ghost use Rattle.secure_session.specs.Session.{isSecure};
@@ -14,7 +17,25 @@ use super::session::SteppedBlock;
 use refusal::LengthAnswer;
 use refusal::Outcome;
 use refusal::Refusal;
+use secure_cipher::ChainMac;
 use secure_cipher::Ciphered;
+
+// Four bytes as one number, the first lowest.
+fn number(a: u8, b: u8, c: u8, d: u8) -> u32
+    ensures { λ r. ⌜ r ≡ a + 256 * (b + 256 * (c + 256 * d)) ⌝ }
+{
+    (a as u32) + 256 * ((b as u32) + 256 * ((c as u32) + 256 * (d as u32)))
+}
+
+// Whether a full MAC begins with four bytes: one comparison of two numbers, which no byte ends early. The MAC comes with the record
+// that holds it: a copy would be cut up for the comparison, and the chain value with it.
+fn begins_with(m: ChainMac, four: [u8; 4]) -> bool
+    ensures { λ r. ⌜ r ≡ eql (take 4 (m .full)) four ⌝ }
+{
+    let is = number(m.full[0], m.full[1], m.full[2], m.full[3]);
+    let came = number(four[0], four[1], four[2], four[3]);
+    is == came
+}
 
 impl Session {
     // Whether it is Secure, at either end.
@@ -63,20 +84,28 @@ impl Session {
     pub fn verify(self, bytes: &[u8], wire_mac: [u8; 4]) -> Stepped
         ensures { λ r. ⌜ stepped r ≡ verifyOf self (now (bytes .entry)) «wire_mac» ⌝ }
     {
-        let mut outcome = Outcome::Refused(Refusal::WrongState);
-        let mut session = self;
-        if session.is_secure() {
-            let start = session.recv_from();
-            let full = session.full_mac(start, bytes);
-            if secure_keys::same(&full[..4], &wire_mac) {
-                outcome = Outcome::Done;
-                session = session.received(full);
-            } else {
-                outcome = Outcome::Refused(Refusal::BadCryptogram);
+        if !self.is_secure() {
+            return Stepped {
+                outcome: Outcome::Refused(Refusal::WrongState),
+                session: self,
+            };
+        }
+        let k = self.keys;
+        let s_mac1 = k.s_mac1;
+        let s_mac2 = k.s_mac2;
+        let m = secure_cipher::cbc_mac(bytes, self.recv_from(), s_mac1, s_mac2);
+        if begins_with(m, wire_mac) {
+            let next = self.received(m);
+            Stepped {
+                outcome: Outcome::Done,
+                session: next,
+            }
+        } else {
+            Stepped {
+                outcome: Outcome::Refused(Refusal::BadCryptogram),
+                session: self,
             }
         }
-        // the answer is made in one place, so that the session is copied once
-        Stepped { outcome, session }
     }
 
     // The derived keys.
