@@ -1,0 +1,13 @@
+-- `bytes_of_u16` meets its contract, clause by clause of the definition.
+-- Assumes nothing.
+use mathlib.Core.Path.{refl}
+use borrow.Author.Needs.{needs}
+use Rattle.slices.specs.Number.{lowFirst}
+use Rattle.slices.proofs.number.bytes_of_u16.Statement.{statement}
+use Rattle.slices.proofs.number.bytes_of_u16.Tie as tie
+
+returns : tie.Need-returns
+returns c = refl
+
+pub bytes-of-u16-spec : {M : Type 1} → statement M
+bytes-of-u16-spec = tie.close (tie.spec (λ c. search needs) (λ c. search needs) returns)

@@ -1,0 +1,4 @@
+pub mod Stretch
+pub mod Place
+pub mod Copy
+pub mod Number
