@@ -15,20 +15,6 @@ use packet_head::SCB_DATA_AT;
 use packet_head::SCB_HEADER_LEN;
 use packet_head::SOM;
 
-// Copies src into out from at on, and answers the place after it.
-fn copy_in(out: &mut [u8], at: usize, src: &[u8]) -> usize
-    requires { ⌜ at + length (now src) ≤ length (now out) ⌝ }
-    ensures { λ r. ⌜ r ≡ at + length (now (src .entry)) ⌝ }
-    ensures { λ _. ⌜ now (out .exit) ≡ write (now (out .entry)) at (now (src .entry)) ⌝ }
-{
-    let mut i = 0;
-    while i < src.len() {
-        out[at + i] = src[i];
-        i += 1;
-    }
-    at + i
-}
-
 // The block behind the head, if there is one; the place after it.
 fn put_block(out: &mut [u8], block: BuildBlock, bytes: &[u8]) -> usize
     requires { ⌜ (blockN (scbGiven block (now bytes)) ≤ «MAX_SCB_DATA») × («HEADER_LEN» + length (blockBytes (scbGiven block (now bytes))) ≤ length (now out)) ⌝ }
@@ -39,8 +25,9 @@ fn put_block(out: &mut [u8], block: BuildBlock, bytes: &[u8]) -> usize
         BuildBlock::Absent => HEADER_LEN,
         BuildBlock::Of(ty) => {
             let head = [(bytes.len() + SCB_HEADER_LEN) as u8, ty.as_byte()];
-            copy_in(out, HEADER_LEN, &head);
-            copy_in(out, SCB_DATA_AT, bytes)
+            slices::copy(out, HEADER_LEN, &head);
+            slices::copy(out, SCB_DATA_AT, bytes);
+            SCB_DATA_AT + bytes.len()
         }
     }
 }
@@ -65,12 +52,13 @@ pub(crate) fn put_body(
         (total / 256) as u8,
         ctrl,
     ];
-    copy_in(out, 0, &head);
+    slices::copy(out, 0, &head);
     let block = w.block;
     let at = put_block(out, block, bytes);
     let code = [w.code];
-    copy_in(out, at, &code);
-    copy_in(out, at + 1, data)
+    slices::copy(out, at, &code);
+    slices::copy(out, at + 1, data);
+    at + 1 + data.len()
 }
 
 // The MAC, if there is one; the place after it.
@@ -83,7 +71,8 @@ pub(crate) fn put_mac(out: &mut [u8], at: usize, mac: GivenMac) -> usize
         GivenMac::Absent => at,
         GivenMac::Is(a, b, c, d) => {
             let four = [a, b, c, d];
-            copy_in(out, at, &four)
+            slices::copy(out, at, &four);
+            at + 4
         }
     }
 }
@@ -96,9 +85,11 @@ pub(crate) fn put_tail(out: &mut [u8], at: usize, crc: bool) -> usize
 {
     if crc {
         let two = packet_sums::crc16_le(&out[..at]);
-        copy_in(out, at, &two)
+        slices::copy(out, at, &two);
+        at + 2
     } else {
         let one = [packet_sums::checksum8(&out[..at])];
-        copy_in(out, at, &one)
+        slices::copy(out, at, &one);
+        at + 1
     }
 }

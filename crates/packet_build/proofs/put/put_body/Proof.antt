@@ -7,6 +7,7 @@ use borrow.Author.Needs.{needs}
 use native.Mathlib.Omega.{arith}
 use Rattle.laws.specs.Over.{write}
 use Rattle.laws.proofs.Overwrite.{write-four}
+use Rattle.slices.proofs.CopyLaws.{copied-all}
 use Rattle.packet_build.specs.Build.{blockBytes, scbGiven, bodyBytes}
 use Rattle.packet_build.proofs.put.put_body.Statement.{statement}
 use Rattle.packet_build.proofs.put.put_body.Tie as tie
@@ -14,19 +15,20 @@ use Rattle.packet_build.proofs.put.put_body.Tie as tie
 returns : tie.Need-returns
 unfolding bodyBytes
 returns c =
-    let s = c .before .before .before .before .before .before .before .before .before .before .before .before .before .before .before .before .before .before .before .before .before .before in
+    let coded = c .before .before .before .before .before .before in
+    let blocked = coded .before .before .before .before .before in
+    let headed = blocked .before .before .before .before in
+    let made = headed .before .before .before in
+    let s = made .before .before .before .before in
     let a = s .args in
     let o = a .out .now in
     let b = blockBytes (scbGiven (a .w .block) (a .bytes .now)) in
-    let k = c .before .before .before .before .before .before .before .before .before .before .before .put-block in
-    let h = c .before .before .before .before .before .before .before .before .before .before .before .before .before .before .before .copy-in .ensures .1
-    ∙ ap₂ (λ (x y : ℕ). write o 0 (0x53 ∷ x ∷ a .total % 256 ∷ a .total / 256 ∷ y ∷ [])) (c .before .before .before .before .before .before .before .before .before .before .before .before .before .before .before .before .before .before .as-byte .ensures) (s .pre .0) in (
-      omega arith,
-      c .before .before .copy-in3 .ensures .1
-          ∙ ap (λ (x : List ℕ). write x (k .result + 1) (a .«data» .now))
-          (c .before .before .before .before .before .before .copy-in2 .ensures .1 ∙ ap (λ (x : List ℕ). write x (k .result) (a .w .code ∷ [])) (k .ensures .1 ∙ ap (λ (x : List ℕ). write x 5 b) h))
-          ∙ write-four o _ b _ (a .«data» .now) (k .result) _ refl (k .ensures .0) refl (omega arith),
-    )
+    let k = blocked .put-block in
+    let h = copied-all o 0 _ (headed .copy .ensures .1) (omega arith) ∙ ap₂ (λ (x y : ℕ). write o 0 (0x53 ∷ x ∷ a .total % 256 ∷ a .total / 256 ∷ y ∷ [])) (made .as-byte .ensures) (s .pre .0) in
+    let b₁ = k .ensures .1 ∙ ap (λ (x : List ℕ). write x 5 b) h in
+    let c₁ = copied-all _ (k .result) (a .w .code ∷ []) (coded .copy2 .ensures .1) (omega arith) ∙ ap (λ (x : List ℕ). write x (k .result) (a .w .code ∷ [])) b₁ in
+    let d₁ = copied-all _ (k .result + 1) (a .«data» .now) (c .before .before .copy3 .ensures .1) (omega arith) ∙ ap (λ (x : List ℕ). write x (k .result + 1) (a .«data» .now)) c₁ in
+    (omega arith, d₁ ∙ write-four o _ b _ (a .«data» .now) (k .result) _ refl (k .ensures .0) refl (omega arith))
 
 pub put-body-spec : {M : Type 1} → statement M
 put-body-spec =
@@ -42,5 +44,7 @@ put-body-spec =
     (λ c κs. search needs)
     (λ c. search needs)
     (λ c κs. search needs)
+    (λ c. search needs)
+    (λ c. search needs)
     (λ c. search needs)
     returns)

@@ -4,17 +4,19 @@ use mathlib.Core.Path.{sym}
 use borrow.Author.Needs.{needs}
 use native.Mathlib.Omega.{arith}
 use Rattle.laws.proofs.Overwrite.{write-nil}
+use Rattle.slices.proofs.CopyLaws.{copied-all}
 use Rattle.packet_build.proofs.put.put_mac.Statement.{statement}
 use Rattle.packet_build.proofs.put.put_mac.Tie as tie
-
-copy-in-requires : tie.Need-copy-in-requires
-copy-in-requires c κs = omega (arith, rw (c .before .before .before .mac .given .1) at (c .before .before .before .before .before .before .pre))
 
 returns : tie.Need-returns
 returns c = rw (c .enum-told .given .1) (omega arith, sym (write-nil _ _))
 
 returns-2 : tie.Need-returns-2
-returns-2 c = rw (c .before .before .before .before .before .before .mac .given .1) (c .before .before .copy-in .ensures)
+returns-2 c =
+    let m = c .before .before .before .before .before .before in
+    let s = m .before .before .before in
+    let r = rw (m .mac .given .1) at (s .pre) in
+    rw (m .mac .given .1) (omega arith, copied-all (s .args .out .now) (s .args .at) _ (c .before .before .copy .ensures .1) (omega arith))
 
 pub put-mac-spec : {M : Type 1} → statement M
 put-mac-spec =
@@ -23,7 +25,8 @@ put-mac-spec =
     (λ c. search needs)
     (λ c. search needs)
     (λ c. search needs)
-    copy-in-requires
+    (λ c κs. search needs)
+    (λ c. search needs)
     returns
     (λ c. search needs)
     returns-2)
