@@ -12,7 +12,7 @@ use Rattle.packet_head.specs.declared.header.Address.{Address}
 use Rattle.packet_head.specs.declared.header.Sqn.{Sqn}
 use Rattle.packet_parse.specs.Frame.{parseOf}
 use Rattle.packet_build.specs.Build.{FrameBlock.scb, FrameParts, FrameSizes, totalLen, buildOf}
-use Rattle.packet_view.specs.Stretch.{Stretch, stretchIn}
+use Rattle.slices.specs.Stretch.{Stretch, stretchIn}
 use Rattle.packet_view.specs.View.{Part, placesOf, payloadOf}
 use Rattle.refusal.specs.Reading.{lengthAnswer}
 use Rattle.channel.specs.declared.messages.CarriedMessage.{CarriedMessage}

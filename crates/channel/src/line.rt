@@ -1,6 +1,6 @@
 // What a call that wrote a frame into a buffer puts on the line.
 ghost use mathlib.Core.Path.{_≡_};
-ghost use Rattle.packet_view.specs.Stretch.{stretchOf};
+ghost use Rattle.slices.specs.Stretch.{stretchOf};
 ghost use Rattle.refusal.specs.Reading.{lengthAnswer};
 ghost use Rattle.channel.specs.Carried.{lineSeen};
 use refusal::LengthAnswer;

@@ -157,11 +157,11 @@ fn read(out: &[u8], c: CarriedMessage) -> [u8; 32] {
         LengthAnswer::Refused(e) => put_refused(e),
     }
     let line = channel::on_line(out, sent);
-    let message = packet_view::part(line, c.start, c.len);
-    let w = eight(packet_view::part(message, 0, 8));
-    let x = eight(packet_view::part(message, 8, 8));
-    let y = eight(packet_view::part(message, 16, 8));
-    let z = eight(packet_view::part(message, 24, 8));
+    let message = slices::part(line, c.start, c.len);
+    let w = eight(slices::part(message, 0, 8));
+    let x = eight(slices::part(message, 8, 8));
+    let y = eight(slices::part(message, 16, 8));
+    let z = eight(slices::part(message, 24, 8));
     joined(w, x, y, z)
 }
 

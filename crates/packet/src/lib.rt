@@ -48,6 +48,6 @@ pub use packet_view::PacketView;
 pub use packet_view::Places;
 pub use packet_view::block_data_in;
 pub use packet_view::mac_in;
-pub use packet_view::part;
 pub use packet_view::payload_in;
 pub use packet_view::places_in;
+pub use slices::part;

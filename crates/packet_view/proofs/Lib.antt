@@ -1,5 +1,3 @@
-pub mod Stretches
-pub mod PartLaws
 pub mod Thin
 pub mod Copied
 pub mod Door

@@ -8,14 +8,15 @@ use native.Mathlib.Omega.{arith}
 use lib.ListN.{length, take, drop}
 use denote.Ref.{RefT, now}
 use Rattle.laws.specs.Answer.{Answer, Answer.given, Answer.refused}
-use Rattle.packet_view.specs.Stretch.{stretchIn}
+use Rattle.slices.specs.Stretch.{stretchIn}
 use Rattle.laws.proofs.Answers.{Holds}
 use Rattle.laws.proofs.Lists.{part-length}
 use Rattle.packet_parse.specs.Frame.{Fields, BlockAt, BlockAt.noBlock, BlockAt.blockAt, MacAt, MacAt.noMac, MacAt.macFrom, parseOf}
 use Rattle.packet_parse.proofs.Within.{Inside, BlockInside, MacInside, parse-inside, accepted-inside}
-use Rattle.packet_view.specs.View.{Part, Shown, placesOf, viewed, partOf, partStart, partSeen, bytesAt, startAt, blockIn, dataIn, macIn, blockDataOf, payloadOf, frameMacOf, blockDataSeen, payloadSeen, frameMacSeen}
+use Rattle.slices.specs.Place.{partOf, partStart, partSeen}
+use Rattle.packet_view.specs.View.{Part, Shown, placesOf, viewed, bytesAt, startAt, blockIn, dataIn, macIn, blockDataOf, payloadOf, frameMacOf, blockDataSeen, payloadSeen, frameMacSeen}
 use Rattle.packet_view.specs.declared.view.PacketView.{PacketView}
-use Rattle.packet_view.proofs.PartLaws.{part-in, start-in}
+use Rattle.slices.proofs.PlaceLaws.{part-in, start-in}
 
 -- ---- the three parts of an accepted frame lie inside it
 

@@ -50,14 +50,14 @@ use denote.Triple.Spec.{Meets, tripleOf}
 use denote.Triple.Walked.{says, Stays, stay-none, walkOf, goes-none, Walks, ends-at, walked, walk-meets}
 use denote.Exit.{yes}
 use denote.Triple.Clauses.{Clauses, closing, ensured, lasts}
-use Rattle.packet_view.specs.Stretch.{stretchOf}
-use Rattle.packet_view.specs.View.{partSeen}
+use Rattle.slices.specs.Stretch.{stretchOf}
+use Rattle.slices.specs.Place.{partSeen}
 use Rattle.packet_view.specs.declared.view.PacketView.{PacketView}
 use Rattle.packet_view.proofs.view.PacketView as T
 use Rattle.packet_view.proofs.view.PacketView.Laws as T′
 use Rattle.packet_view.proofs.view.PacketView.payload as method
-use Rattle.packet_view.proofs.parts.part as fun
-use Rattle.packet_view.proofs.parts.part.Symbol.{name as #part}
+use Rattle.slices.proofs.part as fun
+use Rattle.slices.proofs.part.Symbol.{name as #part}
 
 abbrev pub byteSlice : Lifetime → Ty
 byteSlice ℓ = sliceTy (tyRef ℓ imm (tyInt w8))

@@ -1,13 +1,12 @@
 -- The view of a frame (docs/RULES.md, 3.5): what it tells, and the three parts of the caller's bytes that it shows.
 -- Assumes nothing.
-use Prim.Native.Nat.{ℕ, _+_}
-use mathlib.Core.Bool.{false, cond}
+use Prim.Native.Nat.{ℕ}
+use mathlib.Core.Bool.{false}
 use mathlib.Core.List.{List, []}
-use lib.Dec.{leb}
-use lib.ListN.{length, take, drop}
+use lib.ListN.{take, drop}
 use denote.Ref.{RefT, now}
 use Rattle.laws.specs.Answer.{Answer, Answer.given, Answer.refused}
-use Rattle.packet_view.specs.Stretch.{Stretch, stretchIn}
+use Rattle.slices.specs.Stretch.{Stretch, stretchIn}
 use Rattle.refusal.specs.Reading.{outcomeAnswer}
 use Rattle.packet_head.specs.Numbers.{«MAC_LEN»}
 use Rattle.packet_head.specs.Header.{Control, control}
@@ -22,18 +21,6 @@ use Rattle.packet_view.specs.declared.view.PacketView.{PacketView}
 
 abbrev pub Part : Type 0
 Part = ℕ × ℕ
-
--- the bytes of s there, or none where they run past its end
-unfoldable pub partOf : List ℕ → ℕ → ℕ → List ℕ
-partOf s at len = cond (leb (at + len) (length s)) (take len (drop at s)) []
-
--- and where they begin in s: a part of no bytes that stands for one past the end, at the first byte
-unfoldable pub partStart : List ℕ → ℕ → ℕ → ℕ
-partStart s at len = cond (leb (at + len) (length s)) at 0
-
--- the part, as a slice: these bytes, at that place of the caller's slice
-abbrev pub partSeen : RefT (List ℕ) → ℕ → ℕ → Stretch
-partSeen s at len = stretchIn s (partStart (now s) at len) (partOf (now s) at len)
 
 -- where an accepted frame has its parts; without a block or a MAC, nowhere
 abbrev pub blockIn : BlockAt → Part

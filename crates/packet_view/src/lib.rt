@@ -4,7 +4,6 @@ mod view;
 
 pub use parts::BlockKind;
 pub use parts::Places;
-pub use parts::part;
 pub use parts::places_in;
 pub use view::PacketView;
 pub use view::block_data_in;

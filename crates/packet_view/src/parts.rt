@@ -1,10 +1,9 @@
-// What a frame tells and where its parts stand, by value; and a part of a slice.
+// What a frame tells and where its parts stand, by value.
 ghost use mathlib.Core.Path.{_≡_};
 ghost use Rattle.refusal.specs.Paper.{refusalOf};
 ghost use Rattle.packet_parse.specs.Frame.{typeIn, parseOf, fields, blockPlace, macPlace};
 ghost use Rattle.laws.specs.Answer.{Answer.given};
-ghost use Rattle.packet_view.specs.Stretch.{stretchOf};
-ghost use Rattle.packet_view.specs.View.{placesTold, placesOf, kindOf, blockIn, macIn, partSeen};
+ghost use Rattle.packet_view.specs.View.{placesTold, placesOf, kindOf, blockIn, macIn};
 use packet_head::Address;
 use packet_head::ControlByte;
 use packet_head::MAC_LEN;
@@ -133,17 +132,4 @@ pub fn places_in(buf: &[u8]) -> Places
         Parsed::Good(p) => accepted(p),
         Parsed::Refused(e) => refused(e),
     }
-}
-
-// The len bytes of s from start on, or its empty first part where they run past its end.
-pub fn part(s: &[u8], start: usize, len: usize) -> &[u8]
-    ensures { λ r. ⌜ stretchOf r ≡ partSeen (s .entry) start len ⌝ }
-{
-    if s.len() < start {
-        return &s[..0];
-    }
-    if s.len() - start < len {
-        return &s[..0];
-    }
-    &s[start..start + len]
 }

@@ -1,15 +1,16 @@
 // The view. Its functions take it apart and call those on the slice and the numbers.
 ghost use mathlib.Core.Path.{_≡_};
-ghost use Rattle.packet_view.specs.Stretch.{stretchOf};
+ghost use Rattle.slices.specs.Stretch.{stretchOf};
 ghost use Rattle.packet_parse.specs.Frame.{parseOf};
-ghost use Rattle.packet_view.specs.View.{placesOf, viewed, partSeen, blockDataSeen, payloadSeen, frameMacSeen};
+ghost use Rattle.slices.specs.Place.{partSeen};
+ghost use Rattle.packet_view.specs.View.{placesOf, viewed, blockDataSeen, payloadSeen, frameMacSeen};
 use super::parts::BlockKind;
-use super::parts::part;
 use super::parts::places_in;
 use packet_head::Address;
 use packet_head::ControlByte;
 use packet_head::Trailer;
 use refusal::Outcome;
+use slices::part;
 
 pub struct PacketView<'a> {
     pub frame: &'a [u8],

@@ -1,18 +1,18 @@
 -- What the lookup shows and its test answers, by whether the place runs outside its slice.
 -- Assumes nothing.
-use mathlib.Core.Bool.{Bool, true, false}
+use mathlib.Core.Bool.{Bool, true, false, cond}
 use mathlib.Core.List.{List, [], _∷_}
 use mathlib.Core.Path.{_≡_, refl, sym, ap, _∙_}
 use Prim.Native.Nat.{ℕ, _+_, _-_, _≤_, _<_}
 use native.Mathlib.Omega.{arith}
-use native.Mathlib.Nat.{zero-add, add-sub-cancel-left}
+use native.Mathlib.Nat.{zero-add}
 use borrow.Author.Tests.{lt-ltb, le-ltb, ltb-true, ltb-false}
-use lib.Dec.{ltb}
 use lib.ListN.{length, take, drop}
 use denote.Ref.{RefT, now}
 use Rattle.laws.specs.Answer.{Answer.given, Answer.refused, refuseIf}
-use Rattle.packet_view.specs.Stretch.{stretchIn}
-use Rattle.secure_unseal.specs.Lookup.{sliceFor, runsOutside, payloadShown, lookupSlice, lookupStart, lookupSeen, saturated, placeTest, shownTest}
+use Rattle.slices.specs.Stretch.{stretchIn}
+use Rattle.slices.specs.Place.{runsPast, saturated, partOf, partStart, partSeen}
+use Rattle.secure_unseal.specs.Lookup.{sliceFor, runsOutside, payloadShown, lookupSlice, lookupStart, lookupSeen, placeTest, shownTest}
 
 -- ---- by the definitions alone
 
@@ -44,14 +44,6 @@ module _ (i : Bool) (start len : ℕ) (f w : RefT (List ℕ)) where
 
 -- ---- as the code finds it
 
--- the test by what is left after the start
-pub less-left : (n s l : ℕ) → s ≤ n → ltb (n - s) l ≡ ltb n (s + l)
-less-left n s l h = by (ltb (n - s) l) refl
-  where
-    by : (b : Bool) → ltb (n - s) l ≡ b → ltb (n - s) l ≡ ltb n (s + l)
-    by true e = e ∙ sym (lt-ltb n (s + l) (omega (arith, ltb-true (n - s) l e)))
-    by false e = e ∙ sym (le-ltb n (s + l) (omega (arith, ltb-false (n - s) l e)))
-
 pub in-work : {A : Type 0} (f w : A) {i : Bool} → i ≡ true → w ≡ sliceFor i f w
 in-work f w h = rw h
 
@@ -66,17 +58,26 @@ now-for : (i : Bool) (f w : RefT (List ℕ)) → now (sliceFor i f w) ≡ sliceF
 now-for true f w = refl
 now-for false f w = refl
 
-module _ (i : Bool) (start len : ℕ) (f w : RefT (List ℕ)) {s : RefT (List ℕ)} (hs : s ≡ sliceFor i f w) {o : Bool} (ho : o ≡ ltb (length (now s)) (start + len)) where
+module _ (i : Bool) (start len : ℕ) (f w : RefT (List ℕ)) {s : RefT (List ℕ)} (hs : s ≡ sliceFor i f w) where
   bytes-for : now s ≡ sliceFor i (now f) (now w)
   bytes-for = ap now hs ∙ now-for i f w
 
-  out-for : o ≡ runsOutside i start len (now f) (now w)
-  out-for = ho ∙ ap (λ (l : List ℕ). ltb (length l) (start + len)) bytes-for
+  out-for : runsPast (length (now s)) start len ≡ runsOutside i start len (now f) (now w)
+  out-for = ap (λ (l : List ℕ). runsPast (length l) start len) bytes-for
 
-  pub shows-nothing : o ≡ true → (f .ptr, []) ≡ lookupSeen i start len f w
+  pub shows-nothing : {o : Bool} → o ≡ runsPast (length (now s)) start len → o ≡ true → (f .ptr, []) ≡ lookupSeen i start len f w
   unfolding payloadShown lookupSlice lookupStart
-  shows-nothing h = rw (← out-for, h, zero-add)
+  shows-nothing ho h = rw (← out-for, ← ho, h, zero-add)
 
-  pub shows-part : o ≡ false → stretchIn s start (take (start + len - start) (drop start (now s))) ≡ lookupSeen i start len f w
-  unfolding payloadShown lookupSlice lookupStart
-  shows-part h = rw (← out-for, h, ← bytes-for, ← hs, add-sub-cancel-left)
+  pub shows-part : {o : Bool} → o ≡ runsPast (length (now s)) start len → o ≡ false → partSeen s start len ≡ lookupSeen i start len f w
+  unfolding partOf partStart payloadShown lookupSlice lookupStart
+  shows-part ho h = rw (← out-for, ← bytes-for, ← hs, ← ho, h)
+
+  -- of the frame, whose empty first part is its own
+  pub shows-frame : f ≡ s → partSeen s start len ≡ lookupSeen i start len f w
+  unfolding partOf partStart payloadShown lookupSlice lookupStart
+  shows-frame e = rw (← out-for, ← bytes-for, ← hs, e) (by (runsPast (length (now s)) start len))
+    where
+      by : (b : Bool) → stretchIn s (cond b 0 start) (cond b [] (take len (drop start (now s)))) ≡ stretchIn (cond b s s) (cond b 0 start) (cond b [] (take len (drop start (now s))))
+      by true = refl
+      by false = refl

@@ -1,33 +1,13 @@
 // The payload, looked up where an opening said it stands.
 ghost use mathlib.Core.Path.{_≡_};
-ghost use Prim.Native.Nat.{_+_};
-ghost use lib.Dec.{ltb};
 ghost use Rattle.refusal.specs.Reading.{outcomeAnswer};
-ghost use Rattle.packet_view.specs.Stretch.{stretchOf};
-ghost use Rattle.secure_unseal.specs.Lookup.{lookupSeen, saturated, placeTest, shownTest};
+ghost use Rattle.slices.specs.Stretch.{stretchOf};
+ghost use Rattle.secure_unseal.specs.Lookup.{lookupSeen, placeTest, shownTest};
 use refusal::Outcome;
 use refusal::Refusal;
-
-// Whether a place runs past the end of a slice. The sum may pass 64 bits, so it is not made.
-fn outside(size: usize, start: usize, len: usize) -> bool
-    ensures { λ r. ⌜ r ≡ ltb size (start + len) ⌝ }
-{
-    if size < start {
-        return true;
-    }
-    size - start < len
-}
-
-// The end of a place, as 64 bits carry it.
-fn end_of(start: usize, len: usize) -> usize
-    ensures { λ r. ⌜ r ≡ saturated (start + len) ⌝ }
-{
-    if outside(0xffff_ffff_ffff_ffff, start, len) {
-        0xffff_ffff_ffff_ffff
-    } else {
-        start + len
-    }
-}
+use slices::end_of;
+use slices::outside;
+use slices::part;
 
 // The place's part of the work buffer or of the frame; outside, the frame's empty first part.
 pub fn payload<'a>(
@@ -43,12 +23,9 @@ pub fn payload<'a>(
         if outside(work.len(), start, len) {
             return &frame[..0];
         }
-        return &work[start..start + len];
+        return part(work, start, len);
     }
-    if outside(frame.len(), start, len) {
-        return &frame[..0];
-    }
-    &frame[start..start + len]
+    part(frame, start, len)
 }
 
 fn test(size: usize, start: usize, len: usize) -> Outcome

@@ -5,7 +5,7 @@ use Rattle.secure_seal.specs.Seal.{askedOf, sealOf}
 use Rattle.secure_seal.specs.declared.frame.Direction.{Direction}
 use Rattle.channel.specs.Talk.{sendOf}
 use Rattle.channel.proofs.Calls.{transferred-as}
-use Rattle.packet_view.proofs.Stretches.{same-bytes}
+use Rattle.slices.proofs.Stretches.{same-bytes}
 use borrow.Author.Needs.{needs}
 use Rattle.channel.proofs.frames.transfer.Statement.{statement}
 use Rattle.channel.proofs.frames.transfer.Tie as tie

@@ -7,7 +7,7 @@ use native.Mathlib.Nat.{zero-add}
 use native.Mathlib.Omega.{arith}
 use lib.Seq.{length-take-le}
 use denote.Ref.{RefT, now}
-use Rattle.packet_view.specs.Stretch.{Stretch, stretchIn}
+use Rattle.slices.specs.Stretch.{Stretch, stretchIn}
 use Rattle.channel.proofs.Calls.{line-of, line-whole, line-none}
 use borrow.Author.Needs.{needs}
 use Rattle.channel.proofs.line.on_line.Statement.{statement}

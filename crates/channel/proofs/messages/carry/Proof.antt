@@ -3,7 +3,7 @@
 use Rattle.packet_head.specs.Block.{typeOf}
 use Rattle.channel.specs.Carried.{wireOf}
 use Rattle.channel.proofs.Calls.{wire-given, carried-as}
-use Rattle.packet_view.proofs.Stretches.{same-bytes}
+use Rattle.slices.proofs.Stretches.{same-bytes}
 use borrow.Author.Needs.{needs}
 use Rattle.channel.proofs.messages.carry.Statement.{statement}
 use Rattle.channel.proofs.messages.carry.Tie as tie

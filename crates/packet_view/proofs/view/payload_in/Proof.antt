@@ -5,9 +5,10 @@ use mathlib.Core.Path.{_≡_, _∙_}
 use contract.Running.{givenOf, tables, tablesOf}
 use denote.Triple.Spec.{tripleOf}
 use denote.Triple.Table.{entered, cited}
-use Rattle.packet_view.specs.Stretch.{stretchOf}
-use Rattle.packet_view.specs.View.{partSeen, payloadSeen}
-use Rattle.packet_view.proofs.Stretches.{same-place, same-bytes}
+use Rattle.slices.specs.Stretch.{stretchOf}
+use Rattle.slices.specs.Place.{partSeen}
+use Rattle.packet_view.specs.View.{payloadSeen}
+use Rattle.slices.proofs.Stretches.{same-place, same-bytes}
 use Rattle.packet_view.proofs.Thin.{MethodPromise}
 use Rattle.packet_view.proofs.Door.{DoorPromise, MethodKeeps, New, Next, door-meets}
 use Rattle.packet_view.proofs.ShownLaws.{payload-shown}

@@ -5,13 +5,13 @@ use mathlib.Core.Path.{_≡_}
 use contract.Running.{givenOf, tables, tablesOf}
 use denote.Triple.Spec.{tripleOf}
 use denote.Triple.Table.{entered, cited}
-use Rattle.packet_view.specs.Stretch.{stretchOf}
-use Rattle.packet_view.specs.View.{partSeen}
-use Rattle.packet_view.proofs.Stretches.{same-place, same-bytes}
+use Rattle.slices.specs.Stretch.{stretchOf}
+use Rattle.slices.specs.Place.{partSeen}
+use Rattle.slices.proofs.Stretches.{same-place, same-bytes}
 use Rattle.packet_view.proofs.Thin.{data-at, data-len, MethodPromise, PartKeeps, PartContract, thin-meets}
-use Rattle.packet_view.proofs.parts.part.Symbol as part-def
-use Rattle.packet_view.proofs.parts.part.Symbol.{name as #part}
-use Rattle.packet_view.proofs.parts.part.Met as part-thm
+use Rattle.slices.proofs.part.Symbol as part-def
+use Rattle.slices.proofs.part.Symbol.{name as #part}
+use Rattle.slices.proofs.part.Met as part-thm
 use Rattle.packet_view.proofs.view.PacketView.payload.Key.{name as #payload}
 use Rattle.packet_view.proofs.view.PacketView.payload as method
 use Rattle.packet_view.proofs.view.PacketView.payload.Statement as stated
@@ -29,4 +29,4 @@ payload-spec 𝓤 H 𝓜 𝓖 𝓡 =
     entered 𝓤 H (tripleOf 𝓤 H (𝓖 .A) method.signature (method.spec 𝓤 H (𝓖 .A) (𝓜 .mem) (𝓡 .run)))
     (tables 𝓤 H 𝓜 𝓡 code.env .C) (tables 𝓤 H 𝓜 𝓡 code.env .Λ) #payload code.function (code.unfolded 𝓤 H 𝓜 𝓡)
     (thin-meets Promised data-at data-len 𝓤 H (𝓖 .A) (givenOf 𝓤 H 𝓜 𝓖) (𝓜 .mem) (𝓡 .run) (tablesOf 𝓤 H 𝓜 (tables 𝓤 H 𝓜 𝓡 code.env))
-    (cited 𝓤 H (PartContract 𝓤 H (𝓖 .A) (𝓜 .mem) (𝓡 .run)) 𝓜 𝓡 code.env #part part-def.routine code.calls-packet-view·parts·part (part-thm.met 𝓤 H 𝓜 𝓖 𝓡)) keeps)
+    (cited 𝓤 H (PartContract 𝓤 H (𝓖 .A) (𝓜 .mem) (𝓡 .run)) 𝓜 𝓡 code.env #part part-def.routine code.calls-slices·part (part-thm.met 𝓤 H 𝓜 𝓖 𝓡)) keeps)
