@@ -18,7 +18,3 @@ unfolding write
 part-write o at n y e =
     sym (append-assoc (take at o) y (drop n (drop at o)))
     ∙ ap (λ (r : List ℕ). take at o ++ y ++ r) (drop-drop n at o ∙ ap (λ (m : ℕ). drop (at + m) o) (sym e))
-
--- the front came back as y
-pub front-write : (o h y : List ℕ) (n : ℕ) → y ≡ h → n ≡ length h → y ++ drop n o ≡ write o 0 h
-front-write o h y n e l = part-write o 0 n y (ap length e ∙ sym l) ∙ ap (write o 0) e

@@ -112,16 +112,6 @@ fn test(sqn: Sqn, total: usize, have: usize) -> LengthAnswer
     LengthAnswer::Of(total)
 }
 
-// Writes src over the whole of out.
-fn copy(src: &[u8], out: &mut [u8])
-    requires { ⌜ length (now out) ≡ length (now src) ⌝ }
-    ensures { λ _. ⌜ now (out .exit) ≡ now (src .entry) ⌝ }
-{
-    for i in 0..src.len() {
-        out[i] = src[i];
-    }
-}
-
 // The eight bytes before the data, in a frame of total bytes: the block has no data of its own, and the trailer is a CRC.
 fn put_head(addr: Address, sqn: Sqn, kind: ScsType, code: u8, total: usize, out: &mut [u8])
     requires { ⌜ (sqn .0 ≤ «MAX_SQN») × (total ≤ «MAX_LEN») × (beforeData ≤ length (now out)) ⌝ }
@@ -137,7 +127,7 @@ fn put_head(addr: Address, sqn: Sqn, kind: ScsType, code: u8, total: usize, out:
         kind.as_byte(),
         code,
     ];
-    copy(&head, &mut out[..BEFORE_DATA]);
+    slices::copy(out, 0, &head);
 }
 
 // The data over the whole of out; how often the cipher was called for it.
@@ -149,7 +139,7 @@ fn put_data(session: Session, encrypt: bool, data: &[u8], out: &mut [u8]) -> usi
         let hidden = session.seal_data(data, out);
         hidden.calls
     } else {
-        copy(data, out);
+        slices::copy(out, 0, data);
         0
     }
 }
@@ -160,11 +150,10 @@ fn put_end(full: [u8; 16], end: usize, out: &mut [u8])
     ensures { λ _. ⌜ now (out .exit) ≡ write (write (now (out .entry)) end (take «MAC_LEN» full)) (end + «MAC_LEN») (tailBytes true (take (end + «MAC_LEN») (write (now (out .entry)) end (take «MAC_LEN» full)))) ⌝ }
 {
     let mac = [full[0], full[1], full[2], full[3]];
+    slices::copy(out, end, &mac);
     let crc_at = end + MAC_LEN;
-    copy(&mac, &mut out[end..crc_at]);
     let crc = packet_sums::crc16_le(&out[..crc_at]);
-    let after = end + AFTER_DATA;
-    copy(&crc, &mut out[crc_at..after]);
+    slices::copy(out, crc_at, &crc);
 }
 
 // The frame of total bytes at the front of out; how often the cipher was called for all of it, and the session with its chain moved by

@@ -1,9 +1,13 @@
 -- `secure_seal::frame::put_data` meets its contract: the cipher is called on a part that has the room, or the payload is copied.
 -- Assumes nothing.
 use Prim.Native.Nat.{ℕ}
+use mathlib.Core.Path.{_∙_}
+use native.Mathlib.Omega.{arith}
 use mir.Syntax.{w8}
 use Rattle.laws.specs.Blocks.{Block}
+use Rattle.slices.proofs.CopyLaws.{copied-all}
 use Rattle.secure_session.proofs.SessionLaws.{ChainBlocks, send-block}
+use Rattle.secure_seal.proofs.Places.{write-whole}
 use Rattle.secure_seal.proofs.DataWritten.{hidden-written, plain-fits, plain-written}
 use borrow.Author.Needs.{needs, length-unmapped, elem-fits-field}
 use Rattle.secure_seal.proofs.frame.put_data.Statement.{statement}
@@ -21,11 +25,6 @@ chain-kept s =
     let v = s .args .session .chain .value in
     record { size = length-unmapped ℕ v 16 (g .0 .1); bytes = λ i. elem-fits-field w8 w8 v _ i (g .1) tt .fits }
 
-copy-requires : tie.Need-copy-requires
-copy-requires c κs =
-    let s = c .before .before .before .before in
-    plain-fits (s .args .encrypt) (s .args .«data» .now) (s .args .out .now) (c .before .if1 .left) (s .pre .1)
-
 returns : tie.Need-returns
 returns c =
     let s = c .before .before .before .before .before .before .before in
@@ -39,14 +38,17 @@ returns-2 : tie.Need-returns-2
 returns-2 c =
     let s = c .before .before .before .before .before .before .before in
     let a = s .args in
-    plain-written (a .encrypt) _ _ (a .«data» .now) _ (c .before .before .before .before .if1 .left) (c .before .before .copy .ensures)
+    let plain = c .before .before .before .before .if1 .left in
+    let n = plain-fits (a .encrypt) (a .«data» .now) (a .out .now) plain (s .pre .1) in
+    plain-written (a .encrypt) _ _ (a .«data» .now) _ plain
+    (copied-all (a .out .now) 0 (a .«data» .now) (c .before .before .copy .ensures .1) (omega arith) ∙ write-whole (a .out .now) (a .«data» .now) n)
 
 pub put-data-spec : {M : Type 1} → statement M
 put-data-spec =
     tie.close
     (tie.spec
     (λ c κs. search needs)
-    copy-requires
+    (λ c κs. search needs)
     (λ c. search needs)
     returns
     (λ c. search needs)

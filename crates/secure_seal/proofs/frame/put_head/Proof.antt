@@ -1,35 +1,23 @@
 -- `secure_seal::frame::put_head` meets its contract: the eight bytes are the body without data.
 -- Assumes nothing.
-use mathlib.Core.Path.{_∙_, sym}
-use mathlib.Core.Bool.{true}
-use mathlib.Core.List.{[]}
+use mathlib.Core.Path.{ap, _∙_}
+use Rattle.laws.specs.Over.{write}
 use Rattle.packet_head.specs.Block.{typeOf}
-use Rattle.packet_build.specs.Build.{FrameBlock.scb, bodyBytes}
-use Rattle.packet_build.proofs.Sizes.{body-length}
-use Rattle.secure_seal.specs.Seal.{sealedControl}
-use Rattle.secure_seal.proofs.Places.{front-write}
+use Rattle.slices.proofs.CopyLaws.{copied-all}
 use Rattle.secure_seal.proofs.FrameWritten.{head-bytes}
 use native.Mathlib.Omega.{arith}
-use lib.Seq.{length-take-le}
 use borrow.Author.Needs.{needs}
 use Rattle.secure_seal.proofs.frame.put_head.Statement.{statement}
 use Rattle.secure_seal.proofs.frame.put_head.Tie as tie
 
-slice-aggregate-copy-2 : tie.Need-slice-aggregate-copy-2
-slice-aggregate-copy-2 c = sym (length-take-le 8 (c .before .before .before .before .before .before .args .out .now) (omega arith))
-
-copy-requires : tie.Need-copy-requires
-copy-requires c κs = length-take-le 8 (c .before .before .before .before .before .before .args .out .now) (omega arith)
-
 returns : tie.Need-returns
 returns c =
-    let s = c .before .before .before .before .before .before .before .before .before in
+    let typed = c .before .before .before .before .before in
+    let s = typed .before .before .before .before in
     let a = s .args in
-    front-write (a .out .now) (bodyBytes (a .addr .0) (sealedControl (a .sqn .0)) (scb (typeOf (a .kind)) []) (a .code) [] (a .total)) _ 8
-    (c .before .before .copy .ensures
-    ∙ head-bytes _ (a .addr .0) (a .total) _ (a .sqn .0) _ (typeOf (a .kind)) (a .code) (c .before .before .before .before .before .before .before .as-byte .ensures)
-    (c .before .before .before .before .before .before .value .ensures) (c .before .before .before .before .before .as-byte2 .ensures))
-    (omega (arith, body-length (a .addr .0) (sealedControl (a .sqn .0)) (scb (typeOf (a .kind)) []) (a .code) [] (a .total)))
+    copied-all (a .out .now) 0 _ (c .before .before .copy .ensures .1) (omega arith)
+    ∙ ap (write (a .out .now) 0)
+    (head-bytes _ (a .addr .0) (a .total) _ (a .sqn .0) _ (typeOf (a .kind)) (a .code) (typed .before .before .as-byte .ensures) (typed .before .value .ensures) (typed .as-byte2 .ensures))
 
 pub put-head-spec : {M : Type 1} → statement M
 put-head-spec =
@@ -42,8 +30,6 @@ put-head-spec =
     (λ c. search needs)
     (λ c κs. search needs)
     (λ c. search needs)
-    (λ c. search needs)
-    slice-aggregate-copy-2
-    copy-requires
+    (λ c κs. search needs)
     (λ c. search needs)
     returns)
