@@ -81,9 +81,7 @@ fn wipe(work: &mut [u8], n: usize)
     requires { ⌜ n ≤ length (now work) ⌝ }
     ensures { λ _. ⌜ now (work .exit) ≡ wiped n (now (work .entry)) ⌝ }
 {
-    for i in 0..n {
-        work[i] = 0;
-    }
+    slices::zero(work, 0, n);
 }
 
 // Types 15 and 16: the payload is shown where it stands in the frame.
