@@ -1,5 +1,4 @@
 pub mod PadLaws
-pub mod Pasted
 pub mod Turns
 pub mod MacLaws
 pub mod CbcLaws

@@ -104,7 +104,7 @@ fn bad_padding(out: &mut [u8], n: usize, calls: usize) -> Ciphered
     requires { ⌜ n ≤ length (now out) ⌝ }
     ensures { λ r. ⌜ cipherTold r (now (out .exit)) ≡ badPadding n (now (out .entry)) calls ⌝ }
 {
-    block::zero(out, 0, n);
+    slices::zero(out, 0, n);
     Ciphered {
         answer: LengthAnswer::Refused(Refusal::BadPadding),
         calls,

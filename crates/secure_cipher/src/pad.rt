@@ -5,7 +5,6 @@ ghost use lib.ListN.{length, drop};
 ghost use Rattle.laws.specs.Buffer.{sized, written};
 ghost use Rattle.refusal.specs.Reading.{lengthAnswer};
 ghost use Rattle.secure_cipher.specs.Pad.{padMac, padData, unpad, fitting};
-use super::block;
 use refusal::LengthAnswer;
 use refusal::Refusal;
 
@@ -24,7 +23,7 @@ pub fn pad_mac(data: &[u8], out: &mut [u8]) -> LengthAnswer
             have: out.len(),
         });
     }
-    block::copy(data, out);
+    slices::copy(out, 0, data);
     LengthAnswer::Of(n)
 }
 
@@ -41,9 +40,9 @@ pub fn pad_data(data: &[u8], out: &mut [u8]) -> LengthAnswer
             have: out.len(),
         });
     }
-    block::copy(data, out);
+    slices::copy(out, 0, data);
     out[n] = 0x80;
-    block::zero(out, n + 1, need);
+    slices::zero(out, n + 1, need - (n + 1));
     LengthAnswer::Of(need)
 }
 
@@ -73,9 +72,7 @@ pub(crate) fn last_data_block(s: &[u8]) -> [u8; 16]
     let at = s.len() / 16 * 16;
     let rest = s.len() - at;
     let mut out = [0u8; 16];
-    for i in 0..rest {
-        out[i] = s[at + i];
-    }
+    slices::copy(&mut out, 0, &s[at..]);
     out[rest] = 0x80;
     out
 }

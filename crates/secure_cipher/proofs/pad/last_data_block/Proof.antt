@@ -1,39 +1,28 @@
--- `secure_cipher::pad::last_data_block` meets its contract: before turn i, the first i bytes after the whole blocks are copied over zeros.
+-- `secure_cipher::pad::last_data_block` meets its contract: what is left after the whole blocks is copied over zeros.
 -- Assumes nothing.
-use Prim.Native.Nat.{_≤_, _-_, _+_, _*_, _/_}
-use mathlib.Core.Path.{refl, sym}
+use Prim.Native.Nat.{ℕ, _-_, _*_, _/_}
+use mathlib.Core.Path.{_≡_, refl, sym, ap, _∙_}
 use native.Mathlib.Omega.{arith}
-use lib.ListN.{length, drop, length-drop}
-use lib.Seq.{getD-drop}
+use borrow.Author.Needs.{needs}
+use lib.ListN.{length, take, drop, length-drop}
+use lib.Seq.{take-length}
 use Rattle.laws.specs.Bytes.{zeros}
+use Rattle.slices.specs.Copy.{copyOf}
+use Rattle.slices.proofs.CopyLaws.{copied-all}
 use Rattle.secure_cipher.proofs.PadLaws.{last-made}
-use Rattle.secure_cipher.proofs.Pasted.{Pasted, pasted-none, pasted-more, pasted-all}
 use Rattle.secure_cipher.proofs.pad.last_data_block.Statement.{statement}
 use Rattle.secure_cipher.proofs.pad.last_data_block.Tie as tie
 
-abbrev Inv-loop : tie.InvT-loop
-Inv-loop s at rest out₀ i₀ out i = (i ≤ rest) × Pasted (zeros 16) 0 (drop at s) i out
-
-abbrev μ-loop : tie.MeasureT-loop
-μ-loop s at rest out₀ i₀ out i = rest - i
-
-loop-again : tie.Need-loop-again Inv-loop μ-loop
-loop-again c =
-    let l = c .before .before .loop in
-    let s = c .before .before .before .args .s .now in
-    let at = length s / 16 * 16 in
-    let n = length-drop at s in
-    (omega arith, pasted-more (l .i) _ (l .i + 1) (omega arith) (sym (getD-drop at s (l .i) 0)) (omega arith) (omega arith) (omega arith) (l .inv .1))
-
-returns : tie.Need-returns Inv-loop μ-loop
+returns : tie.Need-returns
 returns c =
-    let s = c .before .before .args .s .now in
+    let s = c .before .before .before .before .before .args .s .now in
     let at = length s / 16 * 16 in
-    last-made s _ at _ refl refl (pasted-all (omega (arith, length-drop at s)) (c .before .loop .inv .1))
+    let e : take (length s - at) (drop at s) ≡ drop at s = ap (λ (n : ℕ). take n (drop at s)) (sym (length-drop at s)) ∙ take-length (drop at s) in
+    last-made s _ at _ refl refl (copied-all (zeros 16) 0 (drop at s) (c .before .copy .ensures .1 ∙ ap (copyOf (zeros 16) 0) e) (omega (arith, length-drop at s)))
 
 pub last-data-block-spec : {M : Type 1} → statement M
 last-data-block-spec =
     tie.close
-    (tie.spec Inv-loop μ-loop
-    (λ c. omega arith) (λ c. omega arith) (λ c. (omega arith, pasted-none _ _ _ 0 refl)) (λ c. omega arith) (λ c. omega arith) (λ c. omega arith) (λ c. omega arith) (λ c. omega arith)
-    loop-again (λ c. omega arith) returns)
+    (tie.spec
+    (λ c. omega arith) (λ c. omega arith) (λ c. search needs) (λ c. search needs) (λ c. search needs) (λ c. search needs) (λ c κs. search needs) (λ c. omega arith)
+    returns)

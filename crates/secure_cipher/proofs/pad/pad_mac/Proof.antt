@@ -7,6 +7,7 @@ use lib.ListN.{length}
 use Rattle.laws.specs.Answer.{Answer.given}
 use Rattle.laws.specs.Buffer.{sized, written}
 use Rattle.laws.specs.Over.{write}
+use Rattle.slices.proofs.CopyLaws.{copied-all}
 use Rattle.secure_cipher.specs.Pad.{padMac}
 use Rattle.secure_cipher.proofs.PadLaws.{padMac-whole, padMac-part, fitting-short, fitting-good}
 use Rattle.secure_cipher.proofs.pad.pad_mac.Statement.{statement}
@@ -35,11 +36,11 @@ returns-3 c =
     let o = a .out .now in
     let n = sym (ap length e) in
     let f = fitting-good (padMac x) (length o) (length x) n (s .before .before .if2 .left) in
-    (ap given n ∙ ap sized f, s .copy .ensures ∙ ap (write o 0) (sym e) ∙ ap (written o) f)
+    (ap given n ∙ ap sized f, copied-all o 0 x (s .copy .ensures .1) (omega arith) ∙ ap (write o 0) (sym e) ∙ ap (written o) f)
 
 pub pad-mac-spec : {M : Type 1} → statement M
 pad-mac-spec =
     tie.close
     (tie.spec
-    (λ c κs. search needs) (λ c. search needs) returns returns-2 (λ c κs. omega arith) (λ c. search needs)
+    (λ c κs. search needs) (λ c. search needs) returns returns-2 (λ c κs. search needs) (λ c. search needs)
     returns-3)
