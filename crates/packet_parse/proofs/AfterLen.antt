@@ -12,6 +12,7 @@ use lib.Seq.{length-take-le, getD-take, take-append-le, take-take}
 use Rattle.laws.specs.Answer.{Answer, Answer.given, Answer.refused, refuseIf, andThen}
 use Rattle.laws.proofs.Answers.{holds-given, refuse-false}
 use Rattle.packet_head.specs.Header.{controlOf}
+use Rattle.slices.specs.Number.{lowNumber}
 use Rattle.packet_parse.specs.Frame.{Head, Fields, lenOf, headOf, frameOf, parseOf}
 use Rattle.packet_parse.proofs.HeadTold.{HeadRead, head-read, accepted-told}
 use Rattle.packet_parse.proofs.Within.{accepted-inside}
@@ -19,7 +20,7 @@ use Rattle.packet_parse.proofs.Within.{accepted-inside}
 -- ---- the head of five bytes or more looks at five
 
 abbrev headFrom5 : ℕ → ℕ → ℕ → ℕ → ℕ → Answer Head
-headFrom5 a b c d e = refuseIf (not (eqb a 0x53)) 2 (a ∷ []) (andThen (controlOf e) (λ ctrl. given (record { addr = b; len = c + 256 * d; ctrl = ctrl })))
+headFrom5 a b c d e = refuseIf (not (eqb a 0x53)) 2 (a ∷ []) (andThen (controlOf e) (λ ctrl. given (record { addr = b; len = lowNumber (c ∷ d ∷ []); ctrl = ctrl })))
 
 head-of-5 : (s : List ℕ) → 5 ≤ length s → headOf s ≡ headFrom5 (getD s 0 0) (getD s 1 0) (getD s 2 0) (getD s 3 0) (getD s 4 0)
 unfolding headOf
@@ -46,7 +47,7 @@ same-first-bytes s t s5 t5 sl tl five front =
     let g : (i : ℕ) → i < 5 → getD s i 0 ≡ getD t i 0 = λ i h. sym (getD-take 5 s i 0 h) ∙ ap (λ (l : List ℕ). getD l i 0) five ∙ getD-take 5 t i 0 h in
     let e₂ = g 2 (omega arith) in
     let e₃ = g 3 (omega arith) in
-    let n : lenOf s ≡ lenOf t = ap₂ (λ (x y : ℕ). x + 256 * y) e₂ e₃ in
+    let n : lenOf s ≡ lenOf t = ap₂ (λ (x y : ℕ). lowNumber (x ∷ y ∷ [])) e₂ e₃ in
     let h : headOf s ≡ headOf t =
     head-of-5 s s5 ∙ (λ i. headFrom5 (g 0 (omega arith) i) (g 1 (omega arith) i) (e₂ i) (e₃ i) (g 4 (omega arith) i)) ∙ sym (head-of-5 t t5) in
     let f : take (lenOf s) s ≡ take (lenOf t) t = front ∙ ap (λ (k : ℕ). take k t) n in

@@ -6,6 +6,7 @@ use mathlib.Core.List.{List, [], _∷_}
 use lib.Dec.{ltb, eqb}
 use lib.ListN.{length, getD, take, drop}
 use Rattle.laws.specs.Answer.{Answer, Answer.given, andThen, refuseIf, choose}
+use Rattle.slices.specs.Number.{lowNumber}
 use Rattle.refusal.specs.Paper.{refusalOf}
 use Rattle.packet_head.specs.Numbers.{SOM, «HEADER_LEN», «SCB_DATA_AT», «CODE_LEN»}
 use Rattle.packet_head.specs.Header.{Control, control, controlOf}
@@ -28,7 +29,7 @@ pub record Head : Type 0 where
 
 -- LEN, its low byte first
 abbrev pub lenOf : List ℕ → ℕ
-lenOf s = getD s 2 0 + 256 * getD s 3 0
+lenOf s = lowNumber (getD s 2 0 ∷ getD s 3 0 ∷ [])
 
 -- fewer than 5 bytes; the first byte; CTRL
 unfoldable pub headOf : List ℕ → Answer Head

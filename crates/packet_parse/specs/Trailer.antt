@@ -8,6 +8,7 @@ use lib.ListN.{length, getD, take}
 use Rattle.laws.specs.Answer.{Answer, Answer.given, refuseIf}
 use Rattle.packet_sums.specs.Checksum.{checksumOf}
 use Rattle.packet_sums.specs.Crc.{crcOf}
+use Rattle.slices.specs.Number.{lowNumber}
 use Rattle.refusal.specs.Paper.{refusalOf}
 use Rattle.packet_head.specs.Numbers.{«CHECKSUM_LEN», «CRC_LEN»}
 use Rattle.packet_head.specs.Trailer.{Tail, Tail.checksum, Tail.crc, tail}
@@ -15,7 +16,7 @@ use Rattle.packet_parse.specs.declared.trailing.TrailerAnswer.{TrailerAn
 
 -- what the last two bytes say, and what the bytes before them want
 abbrev pub crcGot : List ℕ → ℕ
-crcGot f = getD f (length f - «CRC_LEN») 0 + 256 * getD f (length f - 1) 0
+crcGot f = lowNumber (getD f (length f - «CRC_LEN») 0 ∷ getD f (length f - 1) 0 ∷ [])
 
 abbrev pub crcWant : List ℕ → ℕ
 crcWant f = crcOf (take (length f - «CRC_LEN») f)

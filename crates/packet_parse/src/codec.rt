@@ -9,7 +9,6 @@ ghost use Rattle.packet_head.specs.Trailer.{macLen};
 ghost use Rattle.packet_parse.specs.Frame.{macPlace, macStart, macAt, blockPlace, headOf, headAnswer, restOf, frameOf, parseOf, parsed};
 use super::trailing::TrailerAnswer;
 use super::trailing::check;
-use super::trailing::word;
 use packet_head::Address;
 use packet_head::ControlAnswer;
 use packet_head::ControlByte;
@@ -24,6 +23,7 @@ use packet_head::ScsType;
 use packet_head::Trailer;
 use packet_head::trailer_len;
 use refusal::Refusal;
+use slices::word;
 
 // What the first five bytes say.
 pub struct FrameHead {

@@ -1,22 +1,16 @@
 // Whether a frame ends as its bytes want.
 ghost use mathlib.Core.Path.{_≡_};
 ghost use mathlib.Core.Bool.{true, false};
-ghost use Prim.Native.Nat.{_≤_, _+_, _*_};
+ghost use Prim.Native.Nat.{_≤_};
 ghost use lib.ListN.{length};
 ghost use Rattle.packet_parse.specs.Trailer.{trailerOf, trailerAnswer};
 use packet_head::Trailer;
 use refusal::Refusal;
+use slices::word;
 
 pub(crate) enum TrailerAnswer {
     Good(Trailer),
     Refused(Refusal),
-}
-
-// Two bytes, the low one first.
-pub(crate) fn word(lo: u8, hi: u8) -> u16
-    ensures { λ r. ⌜ r ≡ lo + 256 * hi ⌝ }
-{
-    (lo as u16) + 256 * (hi as u16)
 }
 
 fn check_crc(f: &[u8]) -> TrailerAnswer

@@ -36,7 +36,3 @@ crcFrom c (b ∷ bs) = crcFrom (crcByte c b) bs
 
 abbrev pub crcOf : List ℕ → ℕ
 crcOf s = crcFrom crcStart s
-
--- as it travels: two bytes, the low one first
-abbrev pub lowFirst : ℕ → List ℕ
-lowFirst c = c % 256 ∷ c / 256 ∷ []

@@ -4,7 +4,8 @@ ghost use mathlib.Core.Path.{_≡_};
 ghost use mathlib.Core.List.{[], _∷_};
 ghost use Prim.Native.Nat.{_+_, _/_, _*_, _%_, _≤_};
 ghost use lib.ListN.{take, drop};
-ghost use Rattle.packet_sums.specs.Crc.{crcByte, crcOf, lowFirst};
+ghost use Rattle.slices.specs.Number.{lowFirst};
+ghost use Rattle.packet_sums.specs.Crc.{crcByte, crcOf};
 ghost use Rattle.packet_sums.specs.Word.{wordFrom, crcWord};
 
 // The value before the first byte.
@@ -110,8 +111,7 @@ pub fn crc16(bytes: &[u8]) -> u16
 
 // The CRC as it travels, low byte first.
 pub fn crc16_le(bytes: &[u8]) -> [u8; 2]
-    ensures { λ r. ⌜ r ≡ lowFirst (crcOf (now (bytes .entry))) ⌝ }
+    ensures { λ r. ⌜ r ≡ lowFirst 2 (crcOf (now (bytes .entry))) ⌝ }
 {
-    let crc = crc16(bytes);
-    [(crc % 256) as u8, (crc >> 8) as u8]
+    slices::bytes_of_u16(crc16(bytes))
 }

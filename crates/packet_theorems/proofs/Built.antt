@@ -11,11 +11,14 @@ use lib.ListN.{length, getD, take, drop, length-append}
 use lib.Seq.{take-at, getD-at, getD-append-add}
 use Rattle.packet_sums.specs.Checksum.{checksumOf}
 use Rattle.packet_sums.specs.Crc.{crcOf}
+use Rattle.packet_sums.proofs.CrcLaws.{crc-lt}
 use Rattle.laws.specs.Answer.{Answer.given, refuseIf, andThen}
 use Rattle.packet_head.specs.Header.{Control, controlOf, ctrlByte}
 use Rattle.packet_head.specs.Block.{hasMac, scsOf, scbOf}
 use Rattle.packet_head.specs.Trailer.{Tail, Tail.checksum, Tail.crc, trailerLen, macLen}
 use Rattle.laws.proofs.Answers.{holds-given, choose-true, choose-false}
+use Rattle.slices.specs.Number.{lowFirst, lowNumber}
+use Rattle.slices.proofs.NumberLaws.{read-written}
 use Rattle.packet_parse.specs.Trailer.{crcGot, sumGot, trailerOf}
 use Rattle.packet_parse.specs.Frame.{Fields, BlockAt, BlockAt.noBlock, BlockAt.blockAt, MacAt, macAt, lenOf, headOf, fieldsOf, restOf, frameOf, parseOf}
 use Rattle.packet_build.specs.Build as made
@@ -54,14 +57,15 @@ trailer-read-back : (x : List ℕ) (t : Bool) → trailerOf (x ++ tailBytes t x)
 unfolding trailerOf tailOf refuseIf
 trailer-read-back x true =
     let c = crcOf x in
-    let f = x ++ (c % 256 ∷ c / 256 ∷ []) in
-    let l : length f ≡ length x + 2 = length-append x (c % 256 ∷ c / 256 ∷ []) in
+    let two = lowFirst 2 c in
+    let f = x ++ two in
+    let l : length f ≡ length x + 2 = length-append x two in
     let i : length f - 2 ≡ length x = omega arith in
     let j : length f - 1 ≡ length x + 1 = omega arith in
-    let lo : getD f (length f - 2) 0 ≡ c % 256 = ap (λ (n : ℕ). getD f n 0) i ∙ getD-at x (c % 256) (c / 256 ∷ []) 0 (length x) refl in
-    let hi : getD f (length f - 1) 0 ≡ c / 256 = ap (λ (n : ℕ). getD f n 0) j ∙ getD-append-add x (c % 256 ∷ c / 256 ∷ []) 1 0 in
-    let got : crcGot f ≡ c = omega arith in
-    let want : crcOf (take (length f - 2) f) ≡ c = ap crcOf (ap (λ (n : ℕ). take n f) i ∙ take-at x (c % 256 ∷ c / 256 ∷ []) (length x) refl) in
+    let lo : getD f (length f - 2) 0 ≡ c % 256 = ap (λ (n : ℕ). getD f n 0) i ∙ getD-at x (c % 256) (c / 256 % 256 ∷ []) 0 (length x) refl in
+    let hi : getD f (length f - 1) 0 ≡ c / 256 % 256 = ap (λ (n : ℕ). getD f n 0) j ∙ getD-append-add x two 1 0 in
+    let got : crcGot f ≡ c = ap₂ (λ (p q : ℕ). lowNumber (p ∷ q ∷ [])) lo hi ∙ read-written 2 c (crc-lt x) in
+    let want : crcOf (take (length f - 2) f) ≡ c = ap crcOf (ap (λ (n : ℕ). take n f) i ∙ take-at x two (length x) refl) in
     ap₂ (λ (g w : ℕ). refuseIf (not (eqb g w)) 7 (g ∷ w ∷ []) (given (crc g))) got want ∙ rw (eq-eqb c c refl)
 trailer-read-back x false =
     let c = checksumOf x in

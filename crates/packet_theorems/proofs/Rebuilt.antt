@@ -16,10 +16,12 @@ use Rattle.packet_head.specs.Header.{Control, controlOf, ctrlByte}
 use Rattle.packet_head.specs.Block.{hasMac, scsOf, scbOf}
 use Rattle.packet_head.specs.Trailer.{Tail, trailerLen, macLen}
 use Rattle.laws.specs.Bytes.{Bytes}
-use Rattle.laws.proofs.ByteLists.{bytes-take}
+use Rattle.laws.proofs.ByteLists.{bytes-nil, bytes-cons, bytes-take}
 use Rattle.laws.proofs.Answers.{Holds, holds-refuse, holds-choose, holds-then, holds-mono, holds-given}
 use Rattle.laws.proofs.Lists.{part-length}
 use Rattle.laws.proofs.Listed.{front-listed}
+use Rattle.slices.specs.Number.{lowFirst, lowNumber}
+use Rattle.slices.proofs.NumberLaws.{written-read}
 use Rattle.packet_parse.specs.Trailer.{crcGot, trailerOf}
 use Rattle.packet_parse.specs.Frame.{Head, Fields, BlockAt, BlockAt.noBlock, BlockAt.blockAt, MacAt, MacAt.noMac, MacAt.macFrom, macAt, lenOf, headOf, fieldsOf, restOf, frameOf, parseOf}
 use Rattle.packet_build.specs.Build as made
@@ -54,11 +56,11 @@ trailer-there : (f : List ℕ) (t : Bool) → Bytes f → 2 ≤ length f → Hol
 unfolding trailerOf
 trailer-there f true b h =
     holds-refuse _ _ _ _ _ (λ e.
-    let w = crcOf (take (length f - 2) f) in
-    let q : crcGot f ≡ w = eqb-true _ _ (not-false _ e) in
-    let lo : w % 256 ≡ getD f (length f - 2) 0 = omega (arith, b (length f - 2), b (length f - 1)) in
-    let hi : w / 256 ≡ getD f (length f - 1) 0 = omega (arith, b (length f - 2), b (length f - 1)) in
-    ap₂ (λ (x y : ℕ). x ∷ y ∷ []) lo hi ∙ sym (last-two f h))
+    let lo = getD f (length f - 2) 0 in
+    let hi = getD f (length f - 1) 0 in
+    let q : crcGot f ≡ crcOf (take (length f - 2) f) = eqb-true _ _ (not-false _ e) in
+    let two : Bytes (lo ∷ hi ∷ []) = bytes-cons lo (hi ∷ []) (b (length f - 2)) (bytes-cons hi [] (b (length f - 1)) bytes-nil) in
+    ap (lowFirst 2) (sym q) ∙ written-read (lo ∷ hi ∷ []) two ∙ sym (last-two f h))
 trailer-there f false b h =
     holds-refuse _ _ _ _ _ (λ e. ap (λ (x : ℕ). x ∷ []) (sym (eqb-true _ _ (not-false _ e))) ∙ sym (last-one f (omega arith)))
 
@@ -88,7 +90,7 @@ partsFrom f F =
 record Headed (f : List ℕ) (a : ℕ) (c : Control) : Type 0 where
   som : getD f 0 0 ≡ 0x53
   addr : getD f 1 0 ≡ a
-  len : getD f 2 0 + 256 * getD f 3 0 ≡ length f
+  len : lenOf f ≡ length f
   ctrl : ctrlByte c ≡ getD f 4 0
   sqn : c .sqn ≤ 3
   enough : 5 ≤ length f
@@ -245,7 +247,7 @@ headed s h b e l k =
     record {
       som = getD-take n s 0 0 (omega arith) ∙ g .som;
       addr = getD-take n s 1 0 (omega arith) ∙ g .addr;
-      len = ap₂ (λ (x y : ℕ). x + 256 * y) (getD-take n s 2 0 (omega arith)) (getD-take n s 3 0 (omega arith)) ∙ g .len ∙ sym ln;
+      len = ap₂ (λ (x y : ℕ). lowNumber (x ∷ y ∷ [])) (getD-take n s 2 0 (omega arith)) (getD-take n s 3 0 (omega arith)) ∙ g .len ∙ sym ln;
       ctrl = g .ctrl ∙ sym (getD-take n s 4 0 (omega arith));
       sqn = g .sqn;
       enough = omega arith;

@@ -14,8 +14,9 @@ use Rattle.laws.specs.Over.{write}
 use Rattle.laws.proofs.Overwrite.{length-write, write-write, take-write}
 use Rattle.laws.proofs.Listed.{front-listed}
 use Rattle.slices.specs.Copy.{copyOf}
+use Rattle.slices.specs.Number.{lowFirst}
 use Rattle.slices.proofs.CopyLaws.{copied-all}
-use Rattle.packet_sums.specs.Crc.{crcOf, lowFirst}
+use Rattle.packet_sums.specs.Crc.{crcOf}
 use Rattle.packet_build.specs.Build.{FrameBlock.scb, bodyBytes, tailBytes, frameBytes}
 use Rattle.packet_build.proofs.Sizes.{body-length}
 use Rattle.secure_keys.specs.declared.crypto.SessionKeys.{SessionKeys}
@@ -40,7 +41,7 @@ head-bytes a b total v sqn k t code ea ev ek =
 
 -- the first four bytes of f, and the CRC of all before it, copied one after the other
 pub end-written : (o o₁ o₂ f c : List ℕ) (end : ℕ) → length f ≡ 16 → end + 6 ≤ length o
-    → o₁ ≡ copyOf o end (getD f 0 0 ∷ getD f 1 0 ∷ getD f 2 0 ∷ getD f 3 0 ∷ []) → c ≡ lowFirst (crcOf (take (end + 4) o₁)) → o₂ ≡ copyOf o₁ (end + 4) c
+    → o₁ ≡ copyOf o end (getD f 0 0 ∷ getD f 1 0 ∷ getD f 2 0 ∷ getD f 3 0 ∷ []) → c ≡ lowFirst 2 (crcOf (take (end + 4) o₁)) → o₂ ≡ copyOf o₁ (end + 4) c
     → o₂ ≡ write (write o end (take 4 f)) (end + 4) (tailBytes true (take (end + 4) (write o end (take 4 f))))
 end-written o o₁ o₂ f c end n room e₁ ec e₂ =
     let four = getD f 0 0 ∷ getD f 1 0 ∷ getD f 2 0 ∷ getD f 3 0 ∷ [] in
