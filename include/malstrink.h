@@ -7,13 +7,21 @@
    are of 64 bits there, and the proofs are for 64-bit sizes: on a 32-bit machine nothing here is
    proved, and nothing is made for one. Wants C99 or C++11, and gcc or clang.
 
-   WHAT A CALLER OWES. A slice is a pointer and a length, of bytes that are there; a pointer of
-   length 0 is not looked at. Of slices that are lent to one call together, one that is written
-   (out, work) must share no byte with another, nor with the session: that is what restrict says
-   below. A seal whose data stands in its own out answers 0 and seals other bytes. The proofs take
-   it as given and the calls cannot see it. Compiled with -DMALSTRINK_CHECK, every call through this
-   header looks first, and where two overlap says on stderr which, and aborts. Two slices that are
-   only read may overlap. A bool is 0 or 1, as C makes them; do not copy other bytes into one.
+   WHAT A CALLER OWES.
+   - A slice is a pointer and a length, of bytes that are there; a pointer of length 0 is not looked
+     at. An array, and a session on a pointer, is there in full.
+   - What a call writes shares no byte with anything else that it is lent. That is out, work and
+     what a form on a pointer answers in (client_cryptogram, server_cryptogram, rmac_i, mac, keys),
+     each marked restrict below; and the session of malstrink_seal_in and malstrink_unseal_in, which
+     data and frame may not touch either. A seal whose data stands in its own out answers 0 and seals
+     other bytes. The proofs take it as given and the calls cannot see it. Compiled with
+     -DMALSTRINK_CHECK, every call through this header for which this is asked looks first, and where
+     two overlap says on stderr which, and aborts. What is only read may overlap: two slices, and in
+     every other form a slice or an array and the session, which is stored when all has been read.
+   - A session is one that these calls made and left. Other bytes are taken as they stand (an end or
+     a state that is none of the numbers below is refused by 16): what a handshake assures is then
+     not assured.
+   - A bool is 0 or 1, as C makes them; do not copy other bytes into one.
 
    No call keeps a pointer, allocates, or fails in another way than by its answer. A lent buffer is
    written only where the answer says so: after a refusal it is as it was, with two exceptions that
@@ -43,9 +51,11 @@
 
 #ifdef __cplusplus
 #define MALSTRINK_RESTRICT __restrict__
+#define MALSTRINK_RESTRICT_16(name) uint8_t *__restrict__ name
 extern "C" {
 #else
 #define MALSTRINK_RESTRICT restrict
+#define MALSTRINK_RESTRICT_16(name) uint8_t name[restrict 16]
 #endif
 
 /* ---- numbers */
@@ -313,13 +323,11 @@ static inline MalstrinkUnsealed malstrink_checked_unseal(MalstrinkSession s, con
 #define malstrink_seal malstrink_checked_seal
 #define malstrink_unseal malstrink_checked_unseal
 /* what the forms on a pointer look at */
-#define MALSTRINK_OUTSIDE(call, s, one, p, n) malstrink_no_overlap(call, "the session", s, sizeof *(s), one, p, n)
-#define MALSTRINK_LENT(call, s, one, p, n, other, q, m) \
-    (MALSTRINK_OUTSIDE(call, s, one, p, n), MALSTRINK_OUTSIDE(call, s, other, q, m), malstrink_no_overlap(call, one, p, n, other, q, m))
+#define MALSTRINK_APART(call, one, p, n, other, q, m) malstrink_no_overlap(call, one, p, n, other, q, m)
 #else
-#define MALSTRINK_OUTSIDE(call, s, one, p, n) ((void)0)
-#define MALSTRINK_LENT(call, s, one, p, n, other, q, m) ((void)0)
+#define MALSTRINK_APART(call, one, p, n, other, q, m) ((void)0)
 #endif
+#define MALSTRINK_OUTSIDE(call, s, one, p, n) MALSTRINK_APART(call, "the session", s, sizeof *(s), one, p, n)
 
 /* ---- clearing */
 /* zeroes n bytes, by stores that a compiler keeps; also for a key of your own, when it has served */
@@ -386,8 +394,11 @@ static inline MalstrinkAnswer malstrink_given16(MalstrinkAnswer a, const uint8_t
    the archive's code laid down there, its key schedules among it. What is not cleared: the
    processor's registers and wherever a system has saved them (a signal, a switch of tasks), your
    own arrays that a key came from (malstrink_clear), and s itself until malstrink_session_wipe_in.
-   An array that is written (client_cryptogram, ..) lies outside the session, and is written only
-   where the answer's refusal is 0. */
+   Link statically, or with -Wl,-z,now, which pkg-config's words have: where memcpy and memset are
+   looked up only when they are first called, the dynamic linker saves registers further down than
+   is zeroed (on aarch64 it reached 2,784 bytes in malstrink_unseal_in).
+   An array that is answered in (client_cryptogram, ..) overlaps neither the session nor an array or
+   a slice that is read, and is written only where the answer's refusal is 0. */
 
 MALSTRINK_ALONE void malstrink_alone_new(MalstrinkSession *s, const uint8_t scbk[16])
 {
@@ -452,7 +463,7 @@ MALSTRINK_ALONE MalstrinkAnswer malstrink_alone_server_cryptogram(const Malstrin
     MalstrinkBlockAnswer r = malstrink_session_server_cryptogram(*s);
     return malstrink_given16(r.answer, r.block, server_cryptogram);
 }
-static inline MalstrinkAnswer malstrink_session_server_cryptogram_in(const MalstrinkSession *s, uint8_t server_cryptogram[16])
+static inline MalstrinkAnswer malstrink_session_server_cryptogram_in(const MalstrinkSession *s, MALSTRINK_RESTRICT_16(server_cryptogram))
 {
     MalstrinkAnswer a;
     MALSTRINK_OUTSIDE("malstrink_session_server_cryptogram_in", s, "server_cryptogram", server_cryptogram, 16);
@@ -466,7 +477,7 @@ MALSTRINK_ALONE MalstrinkAnswer malstrink_alone_initial_rmac(const MalstrinkSess
     MalstrinkBlockAnswer r = malstrink_session_initial_rmac(*s);
     return malstrink_given16(r.answer, r.block, rmac_i);
 }
-static inline MalstrinkAnswer malstrink_session_initial_rmac_in(const MalstrinkSession *s, uint8_t rmac_i[16])
+static inline MalstrinkAnswer malstrink_session_initial_rmac_in(const MalstrinkSession *s, MALSTRINK_RESTRICT_16(rmac_i))
 {
     MalstrinkAnswer a;
     MALSTRINK_OUTSIDE("malstrink_session_initial_rmac_in", s, "rmac_i", rmac_i, 16);
@@ -497,10 +508,12 @@ MALSTRINK_ALONE MalstrinkAnswer malstrink_alone_receive_challenge(MalstrinkSessi
     return malstrink_given16(r.answer, r.block, client_cryptogram);
 }
 static inline MalstrinkAnswer malstrink_session_receive_challenge_in(MalstrinkSession *s, const uint8_t rnd_a[8], const uint8_t rnd_b[8],
-                                                                     uint8_t client_cryptogram[16])
+                                                                     MALSTRINK_RESTRICT_16(client_cryptogram))
 {
     MalstrinkAnswer a;
     MALSTRINK_OUTSIDE("malstrink_session_receive_challenge_in", s, "client_cryptogram", client_cryptogram, 16);
+    MALSTRINK_APART("malstrink_session_receive_challenge_in", "rnd_a", rnd_a, 8, "client_cryptogram", client_cryptogram, 16);
+    MALSTRINK_APART("malstrink_session_receive_challenge_in", "rnd_b", rnd_b, 8, "client_cryptogram", client_cryptogram, 16);
     a = malstrink_alone_receive_challenge(s, rnd_a, rnd_b, client_cryptogram);
     MALSTRINK_CLEARED();
     return a;
@@ -512,10 +525,12 @@ MALSTRINK_ALONE MalstrinkAnswer malstrink_alone_receive_scrypt(MalstrinkSession 
     *s = r.session;
     return malstrink_given16(r.answer, r.block, rmac_i);
 }
-static inline MalstrinkAnswer malstrink_session_receive_scrypt_in(MalstrinkSession *s, const uint8_t server_cryptogram[16], uint8_t rmac_i[16])
+static inline MalstrinkAnswer malstrink_session_receive_scrypt_in(MalstrinkSession *s, const uint8_t server_cryptogram[16],
+                                                                  MALSTRINK_RESTRICT_16(rmac_i))
 {
     MalstrinkAnswer a;
     MALSTRINK_OUTSIDE("malstrink_session_receive_scrypt_in", s, "rmac_i", rmac_i, 16);
+    MALSTRINK_APART("malstrink_session_receive_scrypt_in", "server_cryptogram", server_cryptogram, 16, "rmac_i", rmac_i, 16);
     a = malstrink_alone_receive_scrypt(s, server_cryptogram, rmac_i);
     MALSTRINK_CLEARED();
     return a;
@@ -528,10 +543,11 @@ MALSTRINK_ALONE MalstrinkAnswer malstrink_alone_mac(MalstrinkSession *s, const u
     *s = r.session;
     return malstrink_given16(r.answer, r.block, mac);
 }
-static inline MalstrinkAnswer malstrink_session_mac_in(MalstrinkSession *s, const uint8_t *bytes, size_t n, uint8_t mac[16])
+static inline MalstrinkAnswer malstrink_session_mac_in(MalstrinkSession *s, const uint8_t *bytes, size_t n, MALSTRINK_RESTRICT_16(mac))
 {
     MalstrinkAnswer a;
     MALSTRINK_OUTSIDE("malstrink_session_mac_in", s, "mac", mac, 16);
+    MALSTRINK_APART("malstrink_session_mac_in", "bytes", bytes, n, "mac", mac, 16);
     a = malstrink_alone_mac(s, bytes, n, mac);
     MALSTRINK_CLEARED();
     return a;
@@ -557,7 +573,7 @@ MALSTRINK_ALONE MalstrinkAnswer malstrink_alone_keys(const MalstrinkSession *s, 
     if (r.answer.refusal == 0) *keys = r.keys;
     return r.answer;
 }
-static inline MalstrinkAnswer malstrink_session_keys_in(const MalstrinkSession *s, MalstrinkKeys *keys)
+static inline MalstrinkAnswer malstrink_session_keys_in(const MalstrinkSession *s, MalstrinkKeys *MALSTRINK_RESTRICT keys)
 {
     MalstrinkAnswer a;
     MALSTRINK_OUTSIDE("malstrink_session_keys_in", s, "keys", keys, sizeof *keys);
@@ -571,7 +587,7 @@ MALSTRINK_ALONE MalstrinkAnswer malstrink_alone_last_other_mac(const MalstrinkSe
     MalstrinkBlockAnswer r = malstrink_session_last_other_mac(*s);
     return malstrink_given16(r.answer, r.block, mac);
 }
-static inline MalstrinkAnswer malstrink_session_last_other_mac_in(const MalstrinkSession *s, uint8_t mac[16])
+static inline MalstrinkAnswer malstrink_session_last_other_mac_in(const MalstrinkSession *s, MALSTRINK_RESTRICT_16(mac))
 {
     MalstrinkAnswer a;
     MALSTRINK_OUTSIDE("malstrink_session_last_other_mac_in", s, "mac", mac, 16);
@@ -580,17 +596,18 @@ static inline MalstrinkAnswer malstrink_session_last_other_mac_in(const Malstrin
     return a;
 }
 
-/* data, out and the session do not overlap */
+/* out overlaps neither data nor the session */
 MALSTRINK_ALONE MalstrinkCiphered malstrink_alone_seal_data(const MalstrinkSession *s, const uint8_t *data, size_t data_n, uint8_t *out,
                                                             size_t out_n)
 {
     return malstrink_session_seal_data(*s, data, data_n, out, out_n);
 }
-static inline MalstrinkCiphered malstrink_session_seal_data_in(const MalstrinkSession *MALSTRINK_RESTRICT s, const uint8_t *MALSTRINK_RESTRICT data,
-                                                               size_t data_n, uint8_t *MALSTRINK_RESTRICT out, size_t out_n)
+static inline MalstrinkCiphered malstrink_session_seal_data_in(const MalstrinkSession *s, const uint8_t *data, size_t data_n,
+                                                               uint8_t *MALSTRINK_RESTRICT out, size_t out_n)
 {
     MalstrinkCiphered r;
-    MALSTRINK_LENT("malstrink_session_seal_data_in", s, "data", data, data_n, "out", out, out_n);
+    MALSTRINK_OUTSIDE("malstrink_session_seal_data_in", s, "out", out, out_n);
+    MALSTRINK_APART("malstrink_session_seal_data_in", "data", data, data_n, "out", out, out_n);
     r = malstrink_alone_seal_data(s, data, data_n, out, out_n);
     MALSTRINK_CLEARED();
     return r;
@@ -601,11 +618,12 @@ MALSTRINK_ALONE MalstrinkCiphered malstrink_alone_open_data(const MalstrinkSessi
 {
     return malstrink_session_open_data(*s, data, data_n, out, out_n);
 }
-static inline MalstrinkCiphered malstrink_session_open_data_in(const MalstrinkSession *MALSTRINK_RESTRICT s, const uint8_t *MALSTRINK_RESTRICT data,
-                                                               size_t data_n, uint8_t *MALSTRINK_RESTRICT out, size_t out_n)
+static inline MalstrinkCiphered malstrink_session_open_data_in(const MalstrinkSession *s, const uint8_t *data, size_t data_n,
+                                                               uint8_t *MALSTRINK_RESTRICT out, size_t out_n)
 {
     MalstrinkCiphered r;
-    MALSTRINK_LENT("malstrink_session_open_data_in", s, "data", data, data_n, "out", out, out_n);
+    MALSTRINK_OUTSIDE("malstrink_session_open_data_in", s, "out", out, out_n);
+    MALSTRINK_APART("malstrink_session_open_data_in", "data", data, data_n, "out", out, out_n);
     r = malstrink_alone_open_data(s, data, data_n, out, out_n);
     MALSTRINK_CLEARED();
     return r;
@@ -627,7 +645,9 @@ static inline MalstrinkCiphered malstrink_seal_in(MalstrinkSession *MALSTRINK_RE
                                                   size_t data_n, uint8_t *MALSTRINK_RESTRICT out, size_t out_n)
 {
     MalstrinkCiphered c;
-    MALSTRINK_LENT("malstrink_seal_in", s, "data", data, data_n, "out", out, out_n);
+    MALSTRINK_OUTSIDE("malstrink_seal_in", s, "data", data, data_n);
+    MALSTRINK_OUTSIDE("malstrink_seal_in", s, "out", out, out_n);
+    MALSTRINK_APART("malstrink_seal_in", "data", data, data_n, "out", out, out_n);
     c = malstrink_alone_seal(s, p, data, data_n, out, out_n);
     MALSTRINK_CLEARED();
     return c;
@@ -651,7 +671,9 @@ static inline MalstrinkOpened malstrink_unseal_in(MalstrinkSession *MALSTRINK_RE
                                                   uint8_t *MALSTRINK_RESTRICT work, size_t work_n)
 {
     MalstrinkOpened o;
-    MALSTRINK_LENT("malstrink_unseal_in", s, "frame", frame, frame_n, "work", work, work_n);
+    MALSTRINK_OUTSIDE("malstrink_unseal_in", s, "frame", frame, frame_n);
+    MALSTRINK_OUTSIDE("malstrink_unseal_in", s, "work", work, work_n);
+    MALSTRINK_APART("malstrink_unseal_in", "frame", frame, frame_n, "work", work, work_n);
     o = malstrink_alone_unseal(s, frame, frame_n, work, work_n);
     MALSTRINK_CLEARED();
     return o;
