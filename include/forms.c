@@ -1,7 +1,11 @@
 /* The header's own C, tested: each form on a pointer answers what the call by value answers, stores
    the session back and leaves nothing on the stack; the wipe clears; the constants and the records'
-   sizes are what they were. Prints one line, or the first thing that is wrong. */
+   sizes are what they were. Prints one line, or the first thing that is wrong. `forms first` looks
+   at the stack alone, from the first call of a program on: where the linker has left memcpy and
+   memset to be found when they are first called, that is done there. */
 #include "painted.h"
+#include <sys/wait.h>
+#include <unistd.h>
 
 static int looked;
 static void must(bool holds, const char *what)
@@ -258,10 +262,121 @@ static void stays_on_the_stack(void)
     leaves_nothing(below_unseal, &secure_r, "unseal_in, refused, leaves something on the stack");
 }
 
-int main(void)
+/* ---- what stays on the stack of a program's first calls */
+/* A handshake and a frame each way, form by form, each on a painted stack that is kept. What the
+   secrets are is known when all is over; until then nothing here may call memcpy or memset. */
+static MalstrinkSession first_c, first_r;
+static MalstrinkBytes16 first_client, first_server, first_rmac_i;
+static const MalstrinkToSeal replying = { 0x85, 1, true, true, 0x60 };
+static size_t reply_n;
+FROM_BELOW(first_new, malstrink_session_new_in(&first_c, test_scbk))
+FROM_BELOW(first_new_reader, malstrink_session_new_reader_in(&first_r, test_scbk, test_cuid))
+FROM_BELOW(first_challenge, malstrink_session_challenge_in(&first_c, test_rnd_a))
+FROM_BELOW(first_receive_challenge, malstrink_session_receive_challenge_in(&first_r, test_rnd_a, test_rnd_b, first_client.bytes))
+FROM_BELOW(first_receive_ccrypt, malstrink_session_receive_ccrypt_in(&first_c, test_cuid, test_rnd_b, first_client.bytes))
+FROM_BELOW(first_server_cryptogram, malstrink_session_server_cryptogram_in(&first_c, first_server.bytes))
+FROM_BELOW(first_receive_scrypt, malstrink_session_receive_scrypt_in(&first_r, first_server.bytes, first_rmac_i.bytes))
+FROM_BELOW(first_confirm_rmac_i, malstrink_session_confirm_rmac_i_in(&first_c, first_rmac_i.bytes))
+FROM_BELOW(first_seal, frame_n = malstrink_seal_in(&first_c, sealing, data, 20, frame, sizeof frame).answer.a)
+FROM_BELOW(first_unseal, malstrink_unseal_in(&first_r, frame, frame_n, work, sizeof work))
+FROM_BELOW(first_seal_reply, reply_n = malstrink_seal_in(&first_r, replying, data, 20, frame2, sizeof frame2).answer.a)
+FROM_BELOW(first_unseal_reply, malstrink_unseal_in(&first_c, frame2, reply_n, work2, sizeof work2))
+typedef struct { const char *name; void (*call)(void); } First;
+enum { FIRST = 12 };
+static const First sealing_first[FIRST] = {
+    { "new_in", below_first_new }, { "new_reader_in", below_first_new_reader }, { "challenge_in", below_first_challenge },
+    { "receive_challenge_in", below_first_receive_challenge }, { "receive_ccrypt_in", below_first_receive_ccrypt },
+    { "server_cryptogram_in", below_first_server_cryptogram }, { "receive_scrypt_in", below_first_receive_scrypt },
+    { "confirm_rmac_i_in", below_first_confirm_rmac_i }, { "seal_in", below_first_seal }, { "unseal_in", below_first_unseal },
+    { "seal_in", below_first_seal_reply }, { "unseal_in", below_first_unseal_reply }
+};
+static const First opening_first[FIRST] = {
+    { "new_in", below_first_new }, { "new_reader_in", below_first_new_reader }, { "challenge_in", below_first_challenge },
+    { "receive_challenge_in", below_first_receive_challenge }, { "receive_ccrypt_in", below_first_receive_ccrypt },
+    { "server_cryptogram_in", below_first_server_cryptogram }, { "receive_scrypt_in", below_first_receive_scrypt },
+    { "confirm_rmac_i_in", below_first_confirm_rmac_i }, { "unseal_in", below_first_unseal }, { "seal_in", below_first_seal },
+    { "seal_in", below_first_seal_reply }, { "unseal_in", below_first_unseal_reply }
+};
+static uint64_t kept[FIRST][ROOM / 8];
+
+static bool first_calls(const First *calls)
 {
+    volatile uint64_t *const words = stack_of_its_own.words;
+    bool clean = true;
+    for (size_t k = 0; k < FIRST; k++) {
+        run_painted(calls[k].call, 0x5A);
+        for (size_t i = 0; i < ROOM / 8; i++) ((volatile uint64_t *)kept[k])[i] = words[i];
+    }
+    must(first_c.state == MALSTRINK_STATE_SECURE && first_r.state == MALSTRINK_STATE_SECURE && SAME(first_c.chain, first_r.chain), "a first handshake");
+    must(memcmp(work, data, 20) == 0 && memcmp(work2, data, 20) == 0, "first frames");
     shake_hands();
+    s = first_c;
+    for (size_t k = 0; k < FIRST; k++) {
+        for (size_t i = 0; i < ROOM / 8; i++) words[i] = kept[k][i];
+        if (!secret_left() && all_cleared()) continue;
+        printf("forms: %s leaves something on the stack when it is the first to call memcpy or memset\n", calls[k].name);
+        clean = false;
+    }
+    return clean;
+}
+
+/* in a process of its own with sealing first, and then in this one, where nothing was called yet,
+   with opening first what that one sealed */
+static int first_use(void)
+{
+    int way[2], ended = 1;
+    pid_t other;
+    if (pipe(way) != 0) abort();
+    other = fork();
+    if (other == 0) {
+        const bool clean = first_calls(sealing_first);
+        fflush(stdout);
+        _exit(write(way[1], &frame_n, sizeof frame_n) == sizeof frame_n && write(way[1], frame, sizeof frame) == sizeof frame && clean ? 0 : 1);
+    }
+    if (other < 0 || waitpid(other, &ended, 0) != other) abort();
+    close(way[1]);
+    if (read(way[0], &frame_n, sizeof frame_n) != sizeof frame_n || read(way[0], frame, sizeof frame) != sizeof frame) abort();
+    if (!first_calls(opening_first) || ended != 0) return 1;
+    printf("forms: %d first calls held\n", 2 * FIRST);
+    return 0;
+}
+
+/* ---- the constants: what the calls answer by them, and the numbers of docs/RULES.md */
+static void constants(void)
+{
+    static const int blocks[] = { MALSTRINK_BLOCK_11, MALSTRINK_BLOCK_12, MALSTRINK_BLOCK_13, MALSTRINK_BLOCK_14,
+                                  MALSTRINK_BLOCK_15, MALSTRINK_BLOCK_16, MALSTRINK_BLOCK_17, MALSTRINK_BLOCK_18 };
+    char version[32];
+    must(MALSTRINK_END_CONTROLLER == 0 && MALSTRINK_END_READER == 1, "the ends");
+    must(fresh_c.end == MALSTRINK_END_CONTROLLER && fresh_r.end == MALSTRINK_END_READER, "the ends of new sessions");
+    must(MALSTRINK_STATE_DISCONNECTED == 0 && MALSTRINK_STATE_CHALLENGED == 1, "the states");
+    must(MALSTRINK_STATE_CRYPTOGRAMMED == 2 && MALSTRINK_STATE_SECURE == 3, "the states");
+    must(fresh_c.state == MALSTRINK_STATE_DISCONNECTED && fresh_r.state == MALSTRINK_STATE_DISCONNECTED, "the state of new sessions");
+    must(challenged_c.state == MALSTRINK_STATE_CHALLENGED && challenged_r.state == MALSTRINK_STATE_CHALLENGED, "the state Challenged");
+    must(cryptogrammed.state == MALSTRINK_STATE_CRYPTOGRAMMED, "the state Cryptogrammed");
+    must(secure_c.state == MALSTRINK_STATE_SECURE && secure_r.state == MALSTRINK_STATE_SECURE, "the state Secure");
+    must(MALSTRINK_BLOCK_NONE == 0, "no block");
+    for (int i = 0; i < 8; i++) {
+        const MalstrinkAnswer a = malstrink_scs_type((uint8_t)blocks[i]);
+        must(blocks[i] == 0x11 + i && a.refusal == MALSTRINK_REFUSAL_NONE && a.a == (size_t)blocks[i], "the block types");
+    }
+    must(malstrink_scs_type(0x10).refusal == MALSTRINK_REFUSAL_BAD_SECURITY_BLOCK, "a block type below");
+    must(malstrink_scs_type(0x19).refusal == MALSTRINK_REFUSAL_BAD_SECURITY_BLOCK, "a block type above");
+    for (unsigned k = 0; k < 4; k++) {
+        const MalstrinkToSeal p = { 5, 1, (k & 1) != 0, (k >> 1 & 1) != 0, 0x60 };
+        const MalstrinkSealed sealed = malstrink_seal((k & 1) != 0 ? secure_r : secure_c, p, data, 20, frame, sizeof frame);
+        must(malstrink_parse(frame, sealed.answer.a).block_type == MALSTRINK_BLOCK_15 + k, "the block type of a sealed frame");
+    }
+    snprintf(version, sizeof version, "%d.%d.%d", MALSTRINK_VERSION_MAJOR, MALSTRINK_VERSION_MINOR, MALSTRINK_VERSION_PATCH);
+    must(strcmp(version, MALSTRINK_VERSION) == 0, "the version's three numbers are not the version");
+}
+
+int main(int count, char **words)
+{
     for (size_t i = 0; i < sizeof data; i++) data[i] = (uint8_t)(3 * i + 1);
+    if (count == 2 && strcmp(words[1], "first") == 0) return first_use();
+    shake_hands();
+    constants();
     /* the records are as they were: what was compiled before still fits */
     must(sizeof(MalstrinkAnswer) == 24 && sizeof(MalstrinkSession) == 106 && sizeof(MalstrinkStepped) == 136, "sizes");
     must(sizeof(MalstrinkSteppedBlock) == 152 && sizeof(MalstrinkSealed) == 144 && sizeof(MalstrinkUnsealed) == 168, "sizes");
