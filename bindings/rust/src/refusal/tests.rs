@@ -79,14 +79,22 @@ fn texts() -> Vec<(Refusal, u8, &'static str)> {
     ]
 }
 
+const HEADER: &str = include_str!("../../../../include/malstrink.h");
+
 /// The numbers of the header's refusals, but for 0, which is none.
 fn numbers() -> impl Iterator<Item = u8> {
-    let header = include_str!("../../../../include/malstrink.h");
-    let told = header.lines().filter_map(|line| {
+    let told = HEADER.lines().filter_map(|line| {
         let constant = line.trim().strip_prefix("MALSTRINK_REFUSAL_")?;
         constant.split([' ', ',']).nth(2)?.parse().ok()
     });
     told.filter(|&n| n > 0)
+}
+
+#[test]
+fn each_constant_was_read() {
+    let named = HEADER.matches("MALSTRINK_REFUSAL_").count();
+    assert!(named > 1, "the header names no refusals");
+    assert_eq!(numbers().count(), named - 1, "the header's constants, but for NONE");
 }
 
 #[test]
@@ -105,5 +113,5 @@ fn each_says_what_is_wrong() {
     }
     let mut tried: Vec<u8> = texts().iter().map(|t| t.1).collect();
     tried.dedup();
-    assert!(tried.into_iter().eq(numbers()) && numbers().count() >= 18);
+    assert_eq!(tried, numbers().collect::<Vec<u8>>());
 }
