@@ -396,7 +396,7 @@ static inline MalstrinkAnswer malstrink_given16(MalstrinkAnswer a, const uint8_t
    own arrays that a key came from (malstrink_clear), and s itself until malstrink_session_wipe_in.
    Link statically, or with -Wl,-z,now, which pkg-config's words have: where memcpy and memset are
    looked up only when they are first called, the dynamic linker saves registers further down than
-   is zeroed (on aarch64 it reached 2,784 bytes in malstrink_unseal_in).
+   is zeroed, as docs/PERFORMANCE.md, Stack, has it measured.
    An array that is answered in (client_cryptogram, ..) overlaps neither the session nor an array or
    a slice that is read, and is written only where the answer's refusal is 0. */
 
