@@ -3,12 +3,13 @@
 use mathlib.Core.Bool.{Bool, true, false}
 use mathlib.Core.List.{List, [], _∷_, _++_, map}
 use mathlib.Core.Path.{_≡_, refl, sym, ap, ap₂, _∙_}
-use Prim.Native.Nat.{ℕ, _+_, _*_, _/_, _%_}
+use Prim.Native.Nat.{ℕ, _+_, _*_, _/_}
 use lib.ListN.{length}
 use Rattle.secure_cipher.proofs.PadLaws.{length-padData}
 use Rattle.secure_session.specs.declared.session.End.{End}
 use Rattle.secure_session.specs.declared.session.End.the-variants.{Controller, Reader}
-use Rattle.secure_seal.specs.Seal.{typeFor, dataLenFor, totalOf}
+use Rattle.secure_seal.specs.Seal.{typeFor, dataLenFor, totalOf, sealedControl}
+use Rattle.packet_build.specs.Build.{headBytes}
 use Rattle.secure_seal.proofs.SealLaws.{stepsFor, headWith}
 use Rattle.channel.specs.Talk.{Send, directionOf, askedIn, Event}
 use Rattle.channel.specs.Demand.{Conversation, handOf, eventsOf, Proper, Agree, Each, Arrived, besides, Alike, Demand3, Measured}
@@ -72,7 +73,7 @@ module _ (s t : Send) (h : Agree s t) where
   type-same = ap₂ (λ (w : End) (e : Bool). typeFor (directionOf w) e) (h .who) (h .encrypt)
 
   head-same : headWith (askedIn s) ≡ headWith (askedIn t)
-  head-same = λ i. 0x53 ∷ h .addr i ∷ total-same i % 256 ∷ total-same i / 256 ∷ (h .sqn i + 4 + 8) ∷ 2 ∷ type-same i ∷ h .code i ∷ []
+  head-same = λ i. headBytes (h .addr i) (sealedControl (h .sqn i)) (total-same i) ++ (2 ∷ type-same i ∷ h .code i ∷ [])
 
   open-by : (e : Bool) → s .encrypt ≡ e → openFor e (askedIn s) ≡ openFor e (askedIn t)
   unfolding openFor

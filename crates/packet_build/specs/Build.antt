@@ -1,6 +1,6 @@
 -- Building a frame (docs/RULES.md, 4): its bytes, and the order in which building is refused.
 -- Assumes nothing.
-use Prim.Native.Nat.{ℕ, _+_, _/_, _%_}
+use Prim.Native.Nat.{ℕ, _+_}
 use mathlib.Core.Bool.{Bool, true, false, not, cond}
 use mathlib.Core.List.{List, [], _∷_, _++_}
 use lib.Dec.{ltb, eqb}
@@ -90,7 +90,7 @@ blockBytes (scb ty l) = (length l + «SCB_HEADER_LEN») ∷ ty ∷ l
 
 -- 53, the address, LEN low and high, CTRL
 abbrev pub headBytes : ℕ → Control → ℕ → List ℕ
-headBytes addr ctrl total = SOM ∷ addr ∷ total % 256 ∷ total / 256 ∷ ctrlByte ctrl ∷ []
+headBytes addr ctrl total = SOM ∷ addr ∷ lowFirst 2 total ++ (ctrlByte ctrl ∷ [])
 
 -- from 53 to the end of data, in a frame of total bytes
 unfoldable pub bodyBytes : ℕ → Control → FrameBlock → ℕ → List ℕ → ℕ → List ℕ

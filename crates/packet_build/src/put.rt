@@ -45,13 +45,8 @@ pub(crate) fn put_body(
     ensures { λ r. ⌜ r ≡ «HEADER_LEN» + «CODE_LEN» + length (blockBytes (scbGiven (w .block) (now (bytes .entry)))) + length (now («data» .entry)) ⌝ }
     ensures { λ _. ⌜ now (out .exit) ≡ write (now (out .entry)) 0 (bodyBytes (w .addr .0) (control (w .ctrl)) (scbGiven (w .block) (now (bytes .entry))) (w .code) (now («data» .entry)) total) ⌝ }
 {
-    let head = [
-        SOM,
-        w.addr.as_byte(),
-        (total % 256) as u8,
-        (total / 256) as u8,
-        ctrl,
-    ];
+    let len = slices::bytes_of_u16(total as u16);
+    let head = [SOM, w.addr.as_byte(), len[0], len[1], ctrl];
     slices::copy(out, 0, &head);
     let block = w.block;
     let at = put_block(out, block, bytes);

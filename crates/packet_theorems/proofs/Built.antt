@@ -22,7 +22,7 @@ use Rattle.slices.proofs.NumberLaws.{read-written}
 use Rattle.packet_parse.specs.Trailer.{crcGot, sumGot, trailerOf}
 use Rattle.packet_parse.specs.Frame.{Fields, BlockAt, BlockAt.noBlock, BlockAt.blockAt, MacAt, macAt, lenOf, headOf, fieldsOf, restOf, frameOf, parseOf}
 use Rattle.packet_build.specs.Build as made
-use Rattle.packet_build.specs.Build.{FrameParts, FrameBlock, FrameBlock.noScb, FrameBlock.scb, blockBytes, tailBytes, frameBytes, coveredBytes, bodyBytes, sizesOf, buildOf}
+use Rattle.packet_build.specs.Build.{FrameParts, FrameBlock, FrameBlock.noScb, FrameBlock.scb, blockBytes, headBytes, tailBytes, frameBytes, coveredBytes, bodyBytes, sizesOf, buildOf}
 use Rattle.packet_build.proofs.Sizes.{Fine, Whole, whole, whole-length, body-length, bytes-length, tail-length}
 
 -- ---- the control byte
@@ -129,14 +129,14 @@ parse-head : (s f : List ℕ) (a : ℕ) (c : Control) → getD s 0 0 ≡ 0x53 �
 unfolding parseOf headOf refuseIf andThen
 parse-head s f a c e₀ e₁ e₄ h l t = rw (le-ltb _ _ h, eq-eqb _ _ e₀, e₄, e₁, le-ltb _ _ l, t)
 
-frame-of : (p : FrameParts) (n : ℕ) (rest : List ℕ) → length (frameBytes p n) ≡ n → p .ctrl .sqn ≤ 3 → parseOf (frameBytes p n ++ rest) ≡ frameOf (frameBytes p n) (p .addr) (p .ctrl)
+frame-of : (p : FrameParts) (n : ℕ) (rest : List ℕ) → length (frameBytes p n) ≡ n → n ≤ 65535 → p .ctrl .sqn ≤ 3 → parseOf (frameBytes p n ++ rest) ≡ frameOf (frameBytes p n) (p .addr) (p .ctrl)
 unfolding frameBytes bodyBytes
-frame-of p n rest l q =
+frame-of p n rest l m q =
     let f = frameBytes p n in
     let s = f ++ rest in
     let ls : length s ≡ n + length rest = length-append f rest ∙ ap (λ (k : ℕ). k + length rest) l in
     let six : 6 ≤ n = omega (arith, bytes-length p n) in
-    let len : lenOf s ≡ n = omega arith in
+    let len : lenOf s ≡ n = read-written 2 n (omega arith) in
     parse-head s f (p .addr) (p .ctrl) refl refl (control-read-back (p .ctrl .sqn) (p .ctrl .crc) (p .ctrl .block) q) (omega arith) (omega arith) (ap (λ (k : ℕ). take k s) len ∙ take-at f rest n l)
 
 -- ---- the whole
@@ -195,8 +195,8 @@ places a c (scb t bl) k d m n have ty l f =
     let r = k ∷ (d ++ (m ++ tailBytes (c .crc) x)) in
     let e : drop 5 (x ++ tailBytes (c .crc) x) ≡ (length bl + 2) ∷ t ∷ (bl ++ r) = ap (λ (z : List ℕ). (length bl + 2) ∷ t ∷ z) (tail-end bl k d m (tailBytes (c .crc) x)) in
     let y = x ++ tailBytes (c .crc) x in
-    let pre : List ℕ = 0x53 ∷ a ∷ n % 256 ∷ n / 256 ∷ ctrlByte c ∷ (length bl + 2) ∷ t ∷ bl in
-    let whole : y ≡ pre ++ r = ap (λ (z : List ℕ). 0x53 ∷ a ∷ n % 256 ∷ n / 256 ∷ ctrlByte c ∷ (length bl + 2) ∷ t ∷ z) (tail-end bl k d m (tailBytes (c .crc) x)) in
+    let pre : List ℕ = headBytes a c n ++ ((length bl + 2) ∷ t ∷ bl) in
+    let whole : y ≡ pre ++ r = ap (λ (z : List ℕ). headBytes a c n ++ ((length bl + 2) ∷ t ∷ z)) (tail-end bl k d m (tailBytes (c .crc) x)) in
     let code : getD y (7 + length bl) 0 ≡ k = ap (λ (z : List ℕ). getD z (7 + length bl) 0) whole ∙ getD-at pre k (d ++ (m ++ tailBytes (c .crc) x)) 0 (7 + length bl) (omega arith) in
     let start : 7 + length bl + 1 ≡ 6 + length (blockBytes (scb t bl)) = omega arith in
     let len : length y - (7 + length bl + 1 + macLen (hasMac t) + trailerLen (c .crc)) ≡ length d = omega (arith, f .total, f .macs) in
@@ -210,5 +210,5 @@ built-reads p have b rest ty e =
     let f = w .tests in
     let l = whole-length p have (w .n) f in
     let lb : w .n ≡ length b = sym l ∙ ap length (sym (w .bytes)) in
-    ap (λ (z : List ℕ). parseOf (z ++ rest)) (w .bytes) ∙ frame-of p (w .n) rest l (f .sqn)
+    ap (λ (z : List ℕ). parseOf (z ++ rest)) (w .bytes) ∙ frame-of p (w .n) rest l (f .most) (f .sqn)
     ∙ places (p .addr) (p .ctrl) (p .block) (p .code) (p .«data») (p .mac) (w .n) have ty l f ∙ ap (λ (n : ℕ). given (builtFields p n)) lb

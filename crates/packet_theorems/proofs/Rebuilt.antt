@@ -52,6 +52,10 @@ last-two f h =
     let e : suc (length f - 2) ≡ length f - 1 = omega arith in
     drop-cons f (length f - 2) 0 (omega arith) ∙ ap (λ (n : ℕ). getD f (length f - 2) 0 ∷ drop n f) e ∙ ap (λ (r : List ℕ). getD f (length f - 2) 0 ∷ r) (last-one f (omega arith))
 
+-- any two bytes of f
+two-bytes : (f : List ℕ) (i j : ℕ) → Bytes f → Bytes (getD f i 0 ∷ getD f j 0 ∷ [])
+two-bytes f i j b = bytes-cons (getD f i 0) (getD f j 0 ∷ []) (b i) (bytes-cons (getD f j 0) [] (b j) bytes-nil)
+
 trailer-there : (f : List ℕ) (t : Bool) → Bytes f → 2 ≤ length f → Holds (λ x. tailBytes t (take (length f - trailerLen t) f) ≡ drop (length f - trailerLen t) f) (trailerOf f t)
 unfolding trailerOf
 trailer-there f true b h =
@@ -59,8 +63,7 @@ trailer-there f true b h =
     let lo = getD f (length f - 2) 0 in
     let hi = getD f (length f - 1) 0 in
     let q : crcGot f ≡ crcOf (take (length f - 2) f) = eqb-true _ _ (not-false _ e) in
-    let two : Bytes (lo ∷ hi ∷ []) = bytes-cons lo (hi ∷ []) (b (length f - 2)) (bytes-cons hi [] (b (length f - 1)) bytes-nil) in
-    ap (lowFirst 2) (sym q) ∙ written-read (lo ∷ hi ∷ []) two ∙ sym (last-two f h))
+    ap (lowFirst 2) (sym q) ∙ written-read (lo ∷ hi ∷ []) (two-bytes f (length f - 2) (length f - 1) b) ∙ sym (last-two f h))
 trailer-there f false b h =
     holds-refuse _ _ _ _ _ (λ e. ap (λ (x : ℕ). x ∷ []) (sym (eqb-true _ _ (not-false _ e))) ∙ sym (last-one f (omega arith)))
 
@@ -98,8 +101,10 @@ record Headed (f : List ℕ) (a : ℕ) (c : Control) : Type 0 where
 
 head-there : (f : List ℕ) (a : ℕ) (c : Control) → Headed f a c → headBytes a c (length f) ≡ take 5 f
 head-there f a c h =
-    let lo : length f % 256 ≡ getD f 2 0 = omega (arith, h .len, h .bytes 2) in
-    let hi : length f / 256 ≡ getD f 3 0 = omega (arith, h .len, h .bytes 2) in
+    let two = two-bytes f 2 3 (h .bytes) in
+    let len = ap (lowFirst 2) (sym (h .len)) ∙ written-read (getD f 2 0 ∷ getD f 3 0 ∷ []) two in
+    let lo : length f % 256 ≡ getD f 2 0 = ap (λ (l : List ℕ). getD l 0 0) len in
+    let hi : length f / 256 % 256 ≡ getD f 3 0 = ap (λ (l : List ℕ). getD l 1 0) len in
     rw (← h .som, ← h .addr, lo, hi, h .ctrl) (front-listed f 5 (h .enough))
 
 -- ---- from the code on

@@ -3,7 +3,7 @@
 use mathlib.Core.Path.{_≡_, sym, ap, ap₂, _∙_}
 use mathlib.Core.Bool.{Bool, true, false}
 use mathlib.Core.List.{List, [], _∷_, _++_}
-use Prim.Native.Nat.{ℕ, _+_, _-_, _/_, _%_, _≤_}
+use Prim.Native.Nat.{ℕ, _+_, _-_, _/_, _≤_}
 use native.Mathlib.Omega.{arith}
 use lib.ListN.{length, take, getD, length-append}
 use lib.Seq.{length-take-le}
@@ -32,12 +32,12 @@ use Rattle.secure_seal.specs.Parts.{Put}
 use Rattle.secure_seal.proofs.Places.{part-write}
 use Rattle.secure_seal.proofs.SealLaws.{sealedData}
 
-pub head-bytes : (a b total v sqn k t code : ℕ) → a ≡ b → v ≡ sqn → k ≡ t
-    → 0x53 ∷ a ∷ total % 256 ∷ total / 256 ∷ (v + 12) ∷ 2 ∷ k ∷ code ∷ [] ≡ bodyBytes b (sealedControl sqn) (scb t []) code [] total
+pub head-bytes : (a b total v sqn k t code : ℕ) (l : List ℕ) → a ≡ b → l ≡ lowFirst 2 total → v ≡ sqn → k ≡ t
+    → 0x53 ∷ a ∷ getD l 0 0 ∷ getD l 1 0 ∷ (v + 12) ∷ 2 ∷ k ∷ code ∷ [] ≡ bodyBytes b (sealedControl sqn) (scb t []) code [] total
 unfolding bodyBytes
-head-bytes a b total v sqn k t code ea ev ek =
+head-bytes a b total v sqn k t code l ea el ev ek =
     let e : v + 12 ≡ sqn + 4 + 8 = omega arith in
-    rw (ea, e, ek)
+    rw (ea, el, e, ek)
 
 -- the first four bytes of f, and the CRC of all before it, copied one after the other
 pub end-written : (o o₁ o₂ f c : List ℕ) (end : ℕ) → length f ≡ 16 → end + 6 ≤ length o

@@ -4,7 +4,7 @@ use mathlib.Core.Path.{_≡_, refl, sym, ap, _∙_}
 use mathlib.Core.Bool.{Bool, true, false}
 use mathlib.Core.List.{List, [], _∷_, _++_, append-assoc, append-nil}
 use mathlib.Core.Option.{some}
-use Prim.Native.Nat.{ℕ, zero, suc, _+_, _*_, _/_, _%_, _≤_, _<_}
+use Prim.Native.Nat.{ℕ, zero, suc, _+_, _*_, _/_, _≤_, _<_}
 use native.Mathlib.Omega.{arith}
 use borrow.Author.Tests.{le-ltb}
 use lib.ListN.{length, take, drop}
@@ -19,7 +19,7 @@ use Rattle.laws.proofs.BlockLists.{block-compl}
 use Rattle.packet_head.specs.Block.{hasMac, isEncrypted, scsOf}
 use Rattle.packet_head.specs.Trailer.{Tail}
 use Rattle.packet_parse.specs.Frame.{Fields, BlockAt.blockAt, MacAt.macFrom, parseOf}
-use Rattle.packet_build.specs.Build.{bodyBytes, frameBytes, tailBytes, buildOf, testOf}
+use Rattle.packet_build.specs.Build.{headBytes, bodyBytes, frameBytes, tailBytes, buildOf, testOf}
 use Rattle.packet_build.proofs.Sizes.{passes, bytes-length}
 use Rattle.packet_build.proofs.Frames.{build-given}
 use Rattle.packet_theorems.proofs.Built.{tailOf}
@@ -114,7 +114,7 @@ steps-total true k v x m h = omega (arith, steps-hide k (compl v) x, length-padD
 
 -- the eight bytes before the data
 abbrev pub headWith : Asked → List ℕ
-headWith q = 0x53 ∷ q .addr ∷ totalOf q % 256 ∷ totalOf q / 256 ∷ (q .sqn + 4 + 8) ∷ 2 ∷ typeFor (q .direction) (q .encrypt) ∷ q .code ∷ []
+headWith q = headBytes (q .addr) (sealedControl (q .sqn)) (totalOf q) ++ (2 ∷ typeFor (q .direction) (q .encrypt) ∷ q .code ∷ [])
 
 pub body-head : (q : Asked) (d : List ℕ) → bodyWith q d ≡ headWith q ++ d
 unfolding bodyBytes

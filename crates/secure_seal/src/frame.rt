@@ -117,11 +117,12 @@ fn put_head(addr: Address, sqn: Sqn, kind: ScsType, code: u8, total: usize, out:
     requires { ⌜ (sqn .0 ≤ «MAX_SQN») × (total ≤ «MAX_LEN») × (beforeData ≤ length (now out)) ⌝ }
     ensures { λ _. ⌜ now (out .exit) ≡ write (now (out .entry)) 0 (bodyBytes (addr .0) (sealedControl (sqn .0)) (scb (typeOf kind) []) code [] total) ⌝ }
 {
+    let len = slices::bytes_of_u16(total as u16);
     let head = [
         SOM,
         addr.as_byte(),
-        (total % 256) as u8,
-        (total / 256) as u8,
+        len[0],
+        len[1],
         sqn.value() + FLAGS,
         EMPTY_BLOCK,
         kind.as_byte(),

@@ -1,13 +1,16 @@
 -- Head, block, code and data stand one after the other.
 -- Assumes nothing.
 use mathlib.Core.Path.{refl, ap, ap₂, _∙_}
-use mathlib.Core.List.{List, [], _∷_}
-use Prim.Native.Nat.{ℕ, _+_, _/_, _%_}
+use mathlib.Core.List.{List, [], _∷_, _++_}
+use Prim.Native.Nat.{ℕ, _+_}
 use borrow.Author.Needs.{needs}
 use native.Mathlib.Omega.{arith}
+use lib.ListN.{getD}
 use Rattle.laws.specs.Over.{write}
 use Rattle.laws.proofs.Overwrite.{write-four}
+use Rattle.slices.specs.Number.{lowFirst}
 use Rattle.slices.proofs.CopyLaws.{copied-all}
+use Rattle.packet_head.specs.Numbers.{SOM}
 use Rattle.packet_build.specs.Build.{blockBytes, scbGiven, bodyBytes}
 use Rattle.packet_build.proofs.put.put_body.Statement.{statement}
 use Rattle.packet_build.proofs.put.put_body.Tie as tie
@@ -19,12 +22,14 @@ returns c =
     let blocked = coded .before .before .before .before .before in
     let headed = blocked .before .before .before .before in
     let made = headed .before .before .before in
-    let s = made .before .before .before .before in
+    let parted = made .before in
+    let s = parted .before .before .before .before in
     let a = s .args in
     let o = a .out .now in
     let b = blockBytes (scbGiven (a .w .block) (a .bytes .now)) in
     let k = blocked .put-block in
-    let h = copied-all o 0 _ (headed .copy .ensures .1) (omega arith) ∙ ap₂ (λ (x y : ℕ). write o 0 (0x53 ∷ x ∷ a .total % 256 ∷ a .total / 256 ∷ y ∷ [])) (made .as-byte .ensures) (s .pre .0) in
+    let m = ap (λ (x : List ℕ). write o 0 (SOM ∷ made .as-byte .result ∷ getD x 0 0 ∷ getD x 1 0 ∷ a .ctrl ∷ [])) (parted .bytes-of-u16 .ensures) in
+    let h = copied-all o 0 _ (headed .copy .ensures .1) (omega arith) ∙ m ∙ ap₂ (λ (x y : ℕ). write o 0 (SOM ∷ x ∷ lowFirst 2 (a .total) ++ (y ∷ []))) (made .as-byte .ensures) (s .pre .0) in
     let b₁ = k .ensures .1 ∙ ap (λ (x : List ℕ). write x 5 b) h in
     let c₁ = copied-all _ (k .result) (a .w .code ∷ []) (coded .copy2 .ensures .1) (omega arith) ∙ ap (λ (x : List ℕ). write x (k .result) (a .w .code ∷ [])) b₁ in
     let d₁ = copied-all _ (k .result + 1) (a .«data» .now) (c .before .before .copy3 .ensures .1) (omega arith) ∙ ap (λ (x : List ℕ). write x (k .result + 1) (a .«data» .now)) c₁ in
@@ -34,6 +39,8 @@ pub put-body-spec : {M : Type 1} → statement M
 put-body-spec =
     tie.close
     (tie.spec
+    (λ c. search needs)
+    (λ c κs. search needs)
     (λ c κs. search needs)
     (λ c. search needs)
     (λ c. search needs)
