@@ -65,10 +65,9 @@ fn mac_of(x: &[u8]) -> CMac {
 
 // Fields, MAC, the lengths of block and data, the room; then block and data.
 pub(crate) fn build(op: u8, x: &[u8], w: &[u8], out: &mut [u8]) -> usize {
-    let n = given::four(given::from(x, 11));
-    let parts = given::from(x, 23);
-    let block = given::first(parts, n);
-    let data = given::first(given::from(parts, n), given::four(given::from(x, 15)));
+    let n = given::four(x, 11);
+    let block = slices::part(x, 23, n);
+    let data = slices::part(x, 23 + n, given::four(x, 15));
     if op == 12 {
         want::answer(
             w,

@@ -19,14 +19,6 @@ pub(crate) fn from(x: &[u8], at: usize) -> &[u8] {
     &x[..0]
 }
 
-// The first n bytes, or all.
-pub(crate) fn first(x: &[u8], n: usize) -> &[u8] {
-    if n < x.len() {
-        return &x[..n];
-    }
-    x
-}
-
 pub(crate) fn eight(x: &[u8]) -> Bytes8 {
     Bytes8 {
         bytes: [
@@ -65,25 +57,40 @@ pub(crate) fn sixteen(x: &[u8]) -> Bytes16 {
     }
 }
 
-fn wide(x: u8) -> usize
+pub(crate) fn wide(x: u8) -> usize
     ensures { λ r. ⌜ r ≤ 255 ⌝ }
 {
     x as usize
 }
 
-// Two bytes, the low one first.
-pub(crate) fn two(x: &[u8]) -> usize
+fn wide_u16(x: u16) -> usize
     ensures { λ r. ⌜ r ≤ 65535 ⌝ }
 {
-    wide(byte(x, 1)) * 256 + wide(byte(x, 0))
+    x as usize
 }
 
-pub(crate) fn four(x: &[u8]) -> usize
+fn wide_u32(x: u32) -> usize
     ensures { λ r. ⌜ r ≤ 4294967295 ⌝ }
 {
-    two(from(x, 2)) * 65536 + two(x)
+    x as usize
 }
 
-pub(crate) fn number(x: &[u8]) -> usize {
-    four(from(x, 4)) * 4294967296 + four(x)
+// The number in the two bytes from `at` on, the low one first; 0 where they run past the end.
+pub(crate) fn two(x: &[u8], at: usize) -> usize
+    ensures { λ r. ⌜ r ≤ 65535 ⌝ }
+{
+    wide_u16(slices::read_u16(x, at))
+}
+
+// The same of four bytes.
+pub(crate) fn four(x: &[u8], at: usize) -> usize
+    ensures { λ r. ⌜ r ≤ 4294967295 ⌝ }
+{
+    wide_u32(slices::read_u32(x, at))
+}
+
+// Eight bytes: each half as above.
+pub(crate) fn number(x: &[u8], at: usize) -> usize {
+    let low = four(x, at);
+    four(from(x, at), 4) * 4294967296 + low
 }

@@ -34,17 +34,13 @@ fn agrees(op: u8, x: &[u8], w: &[u8]) -> bool {
 
 // A case is two lengths, and that many bytes each.
 fn case_len(x: &[u8]) -> usize {
-    4 + given::two(x) + given::two(given::from(x, 2))
+    4 + given::two(x, 0) + given::two(x, 2)
 }
 
 fn case_agrees(op: u8, x: &[u8]) -> bool {
-    let n = given::two(x);
-    let m = given::two(given::from(x, 2));
-    agrees(
-        op,
-        given::first(given::from(x, 4), n),
-        given::first(given::from(x, 4 + n), m),
-    )
+    let n = given::two(x, 0);
+    let m = given::two(x, 2);
+    agrees(op, slices::part(x, 4, n), slices::part(x, 4 + n, m))
 }
 
 fn more(n: u64) -> u64 {
@@ -131,8 +127,8 @@ fn part(x: &[u8], from: usize) -> Seen
     ensures { λ r. ⌜ r .at ≤ length (now (x .entry)) ⌝ }
 {
     let head = given::from(x, from);
-    let count = given::two(given::from(head, 1));
-    let n = given::two(given::first(given::from(head, 3), 1));
+    let count = given::two(head, 1);
+    let n = given::wide(given::byte(head, 3));
     if x.len() - from < 4 + n {
         say_cut(from);
         return Seen {
@@ -145,11 +141,7 @@ fn part(x: &[u8], from: usize) -> Seen
     if seen.over {
         return seen;
     }
-    let ok = tell(
-        given::first(given::from(head, 4), n),
-        seen.right,
-        count as u64,
-    );
+    let ok = tell(slices::part(head, 4, n), seen.right, count as u64);
     Seen {
         at: seen.at,
         right: seen.right,
@@ -163,7 +155,7 @@ fn parts(x: &[u8]) {
         say_cut(0);
         return;
     }
-    let count = given::two(x);
+    let count = given::two(x, 0);
     let mut at = 2;
     for _ in 0..count {
         let seen = part(x, at);

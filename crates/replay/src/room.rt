@@ -63,11 +63,11 @@ fn left(w: &[u8], at: usize, out: &[u8; 1024], room: usize) -> usize {
     if 1000 < room {
         return want::NONE;
     }
-    want::bytes(w, at, given::first(out, room + 16))
+    want::bytes(w, at, slices::part(out, 0, room + 16))
 }
 
 pub(crate) fn call(op: u8, x: &[u8], w: &[u8]) -> usize {
-    let room = given::four(given::from(x, room_at(op)));
+    let room = given::four(x, room_at(op));
     let mut out = filled();
     let p = lent(op, x, w, &mut out, room);
     left(w, p, &out, room)

@@ -140,13 +140,12 @@ pub(crate) fn unseal(all: &[u8], w: &[u8], work: &mut [u8]) -> usize {
 
 // Which slice, start, length, the frame's length; then frame and work buffer.
 fn payload_test(x: &[u8], w: &[u8]) -> usize {
-    let start = given::number(given::from(x, 1));
-    let len = given::number(given::from(x, 9));
-    let both = given::from(x, 21);
-    let n = given::four(given::from(x, 17));
+    let start = given::number(x, 1);
+    let len = given::number(x, 9);
+    let n = given::four(x, 17);
     let in_work = given::flag(x, 0);
-    let frame = given::first(both, n);
-    let work = given::from(both, n);
+    let frame = slices::part(x, 21, n);
+    let work = given::from(x, 21 + n);
     want::answer(
         w,
         0,

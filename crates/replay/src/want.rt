@@ -46,25 +46,17 @@ pub(crate) fn flag(want: &[u8], at: usize, x: bool) -> usize {
     }
 }
 
-fn wide(x: u16) -> usize {
-    x as usize
-}
-
-fn two(want: &[u8], at: usize, x: usize) -> usize {
-    byte(want, byte(want, at, (x % 256) as u8), (x / 256 % 256) as u8)
-}
-
-pub(crate) fn short(want: &[u8], at: usize, x: u16) -> usize {
-    two(want, at, wide(x))
-}
-
-fn four(want: &[u8], at: usize, x: usize) -> usize {
-    two(want, two(want, at, x), x / 65536)
-}
-
 // The low byte of a number comes first.
+pub(crate) fn short(want: &[u8], at: usize, x: u16) -> usize {
+    let two = slices::bytes_of_u16(x);
+    bytes(want, at, &two)
+}
+
+// In eight bytes.
 pub(crate) fn number(want: &[u8], at: usize, x: usize) -> usize {
-    four(want, four(want, at, x), x / 4294967296)
+    let low = slices::bytes_of_u32((x % 4294967296) as u32);
+    let high = slices::bytes_of_u32((x / 4294967296 % 4294967296) as u32);
+    bytes(want, bytes(want, at, &low), &high)
 }
 
 pub(crate) fn answer(want: &[u8], at: usize, x: CAnswer) -> usize {
