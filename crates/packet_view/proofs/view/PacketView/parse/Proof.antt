@@ -1,4 +1,5 @@
 -- `packet_view::PacketView::parse` meets its contract: a walk of its MIR, by hand. `places_in` is called on the slice, and the view is made of the slice and of what it found.
+-- `Promised` is what the contract says of the view r of the slice s, and `keeps` that what `places_in` answered keeps it.
 -- A view's fields are the slice and then those of `Places`, so what they own together is what the slice owns beside what the places own, and `own-open` and `own-shut` alone lead from the one to the other. A `&[u8]` is Copy: what it owns is had three times, for the callee, for frame at exit, and inside the result.
 -- Assumes nothing.
 use mathlib.Core.Path.{_≡_, refl, ap}
@@ -43,8 +44,9 @@ use denote.Triple.Walked.{says, Stays, stay-none-slice, walkOf, goes-none-slice,
 use denote.Exit.{yes}
 use denote.Triple.Clauses.{ensured, lasts}
 use Rattle.packet_parse.specs.Frame.{parseOf}
-use Rattle.packet_view.specs.View.{Shown, placesTold, placesOf}
+use Rattle.packet_view.specs.View.{placesTold, placesOf, viewed}
 use Rattle.packet_view.specs.declared.parts.Places.{Places}
+use Rattle.packet_view.specs.declared.view.PacketView.{PacketView}
 use Rattle.packet_view.proofs.Settled.{viewWith}
 use Rattle.packet_view.proofs.Copied.{copied}
 use Rattle.packet_view.proofs.view.PacketView as T
@@ -59,6 +61,12 @@ use Rattle.packet_view.proofs.view.PacketView.parse.Key.{name as #parse
 use Rattle.packet_view.proofs.view.PacketView.parse as method
 use Rattle.packet_view.proofs.view.PacketView.parse.Statement as stated
 use Rattle.packet_view.proofs.view.PacketView.parse.Code as code
+
+abbrev Promised : RefT (List ℕ) → PacketView → Type 0
+Promised s r = viewed r ≡ (s, placesOf (parseOf (now s)))
+
+keeps : (s : RefT (List ℕ)) (p : Places) → placesTold p ≡ placesOf (parseOf (now s)) → Promised s (viewWith s p)
+keeps s p e = cc
 
 abbrev stayed : Stays (method.ended .signature .params) (method.ended .kept)
 stayed = (stay-none-slice (0 ∷ []) tt (plain (λ _. u8)) yes, tt)
@@ -116,7 +124,7 @@ module _ {M : Type 1} (𝓤 : URA M) (H : Heap 𝓤) (A : Atoms 𝓤) (W : Given
   exits : (p : Places) → placesTold p ≡ placesOf (parseOf (now s)) → ent 𝓤 (⋆ 𝓤 H A (‵ (Made p) ∷ (‵ (flft κ q) ⊛ ‵ ftrue) ∷ ‵ Own ∷ [])) (Post (mach p))
   exits p e =
       qed W (‵ (Made p) ∷ (‵ (flft κ q) ⊛ ‵ ftrue) ∷ ‵ Own ∷ []) ∵
-      suffices ! _ (ends-at 𝓤 H A method.ended stayed (method.clauses 𝓤 H A mem run) W (((κ, tt), (q, tt), tt, (s, tt), (v ∷ [], tt)), tt) (mach p) (viewWith s p) (tt, tt) (tt, tt)) $ says ! (ap (λ (x : Shown). (s, x)) e) $
+      suffices ! _ (ends-at 𝓤 H A method.ended stayed (method.clauses 𝓤 H A mem run) W (((κ, tt), (q, tt), tt, (s, tt), (v ∷ [], tt)), tt) (mach p) (viewWith s p) (tt, tt) (tt, tt)) $ says ! (keeps s p e) $
       move ! (1 ∷ []) $ frame ! $ nothing ! $ move ! (2 ∷ 0 ∷ []) $ fjoin ! $ frame ! $ done !
 
   module _ (C : Calls 𝓤 H) (Λ : Loops 𝓤 H) (fm : FmC 𝓤 H (W .laws) C) (known : Triple 𝓤 (C #places-in) (Found 𝓤 H A mem run)) where
