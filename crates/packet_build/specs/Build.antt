@@ -8,7 +8,7 @@ use lib.ListN.{length}
 use Rattle.laws.specs.Answer.{Answer, Answer.given, refuseIf, andThen}
 use Rattle.packet_sums.specs.Checksum.{checksumOf}
 use Rattle.packet_sums.specs.Crc.{crcOf}
-use Rattle.packet_head.specs.Numbers.{SOM, «MAX_SQN», «HEADER_LEN», «SCB_HEADER_LEN», «MAX_SCB_DATA», «CODE_LEN», «MAC_LEN», «MAX_LEN»}
+use Rattle.packet_head.specs.Numbers.{SOM, «MAX_SQN», «HEADER_LEN», «SCB_HEADER_LEN», «MAX_SCB_DATA», «CODE_LEN», «MAC_LEN», «CRC_LEN», «MAX_LEN»}
 use Rattle.slices.specs.Number.{lowFirst}
 use Rattle.packet_head.specs.Header.{Control, control, ctrlByte}
 use Rattle.packet_head.specs.Block.{hasMac, typeOf}
@@ -98,7 +98,7 @@ bodyBytes addr ctrl b code dat total = headBytes addr ctrl total ++ blockBytes b
 
 -- the trailer of what stands before it
 abbrev pub tailBytes : Bool → List ℕ → List ℕ
-tailBytes true l = lowFirst 2 (crcOf l)
+tailBytes true l = lowFirst «CRC_LEN» (crcOf l)
 tailBytes false l = checksumOf l ∷ []
 
 -- from 53 to the end of the MAC: what the trailer is over

@@ -4,6 +4,7 @@ ghost use Prim.Native.Nat.{_≤_};
 ghost use lib.ListN.{length};
 ghost use Rattle.laws.specs.Buffer.{sized, written};
 ghost use Rattle.refusal.specs.Reading.{lengthAnswer};
+ghost use Rattle.packet_head.specs.Numbers.{«MAC_LEN»};
 ghost use Rattle.packet_build.specs.Build.{macBytes, partsGiven, buildOf, bodyOf};
 use super::put::put_body;
 use super::put::put_mac;
@@ -12,6 +13,7 @@ use super::test::Tested;
 use super::test::test_parts;
 use packet_head::Address;
 use packet_head::ControlByte;
+use packet_head::MAC_LEN;
 use packet_head::ScsType;
 use refusal::LengthAnswer;
 
@@ -28,11 +30,11 @@ pub enum GivenMac {
 
 impl GivenMac {
     pub(crate) fn size(self) -> usize
-        ensures { λ r. ⌜ (r ≡ length (macBytes self)) × (r ≤ 4) ⌝ }
+        ensures { λ r. ⌜ (r ≡ length (macBytes self)) × (r ≤ «MAC_LEN») ⌝ }
     {
         match self {
             GivenMac::Absent => 0,
-            GivenMac::Is(_, _, _, _) => 4,
+            GivenMac::Is(_, _, _, _) => MAC_LEN,
         }
     }
 }
@@ -85,7 +87,7 @@ pub fn build_body(w: PacketBuilder, block: &[u8], data: &[u8], out: &mut [u8]) -
     ensures { λ r. ⌜ lengthAnswer r ≡ sized (bodyOf (partsGiven w (now (block .entry)) (now («data» .entry)) GivenMac.Absent) (length (now (out .entry)))) ⌝ }
     ensures { λ _. ⌜ now (out .exit) ≡ written (now (out .entry)) (bodyOf (partsGiven w (now (block .entry)) (now («data» .entry)) GivenMac.Absent) (length (now (out .entry)))) ⌝ }
 {
-    match test_parts(w, block, data, 4, out.len()) {
+    match test_parts(w, block, data, MAC_LEN, out.len()) {
         Tested::Total(total, ctrl) => LengthAnswer::Of(put_body(out, w, ctrl, block, data, total)),
         Tested::Refused(e) => LengthAnswer::Refused(e),
     }

@@ -10,7 +10,11 @@ ghost use Rattle.packet_build.specs.Build.{scbGiven, blockN, blockBytes,
 use super::codec::BuildBlock;
 use super::codec::GivenMac;
 use super::codec::PacketBuilder;
+use packet_head::CHECKSUM_LEN;
+use packet_head::CODE_LEN;
+use packet_head::CRC_LEN;
 use packet_head::HEADER_LEN;
+use packet_head::MAC_LEN;
 use packet_head::SCB_DATA_AT;
 use packet_head::SCB_HEADER_LEN;
 use packet_head::SOM;
@@ -52,8 +56,8 @@ pub(crate) fn put_body(
     let at = put_block(out, block, bytes);
     let code = [w.code];
     slices::copy(out, at, &code);
-    slices::copy(out, at + 1, data);
-    at + 1 + data.len()
+    slices::copy(out, at + CODE_LEN, data);
+    at + CODE_LEN + data.len()
 }
 
 // The MAC, if there is one; the place after it.
@@ -67,7 +71,7 @@ pub(crate) fn put_mac(out: &mut [u8], at: usize, mac: GivenMac) -> usize
         GivenMac::Is(a, b, c, d) => {
             let four = [a, b, c, d];
             slices::copy(out, at, &four);
-            at + 4
+            at + MAC_LEN
         }
     }
 }
@@ -81,10 +85,10 @@ pub(crate) fn put_tail(out: &mut [u8], at: usize, crc: bool) -> usize
     if crc {
         let two = packet_sums::crc16_le(&out[..at]);
         slices::copy(out, at, &two);
-        at + 2
+        at + CRC_LEN
     } else {
         let one = [packet_sums::checksum8(&out[..at])];
         slices::copy(out, at, &one);
-        at + 1
+        at + CHECKSUM_LEN
     }
 }

@@ -104,20 +104,20 @@ impl Scb {
                 need: SCB_HEADER_LEN,
             });
         }
-        let len = buf[0];
-        if len < 2 {
+        let len = buf[0] as usize;
+        if len < SCB_HEADER_LEN {
             return ScbAnswer::Refused(Refusal::BadSecurityBlockLength(buf[1]));
         }
-        if buf.len() < len as usize {
+        if buf.len() < len {
             return ScbAnswer::Refused(Refusal::Truncated {
                 have: buf.len(),
-                need: len as usize,
+                need: len,
             });
         }
         match ScsType::from_byte(buf[1]) {
             ScsAnswer::Good(ty) => ScbAnswer::Good(Scb {
                 ty,
-                data_len: len - 2,
+                data_len: (len - SCB_HEADER_LEN) as u8,
             }),
             ScsAnswer::Refused(e) => ScbAnswer::Refused(e),
         }

@@ -1,6 +1,7 @@
 // The end of a frame, by its kind.
 ghost use mathlib.Core.Path.{_≡_};
 ghost use Prim.Native.Nat.{_≤_};
+ghost use Rattle.packet_head.specs.Numbers.{«CHECKSUM_LEN», «CRC_LEN»};
 ghost use Rattle.packet_head.specs.Trailer.{tail, isCrc, trailerLen};
 use super::numbers::CHECKSUM_LEN;
 use super::numbers::CRC_LEN;
@@ -23,7 +24,7 @@ impl Trailer {
 
 // How many bytes a trailer has.
 pub fn trailer_len(crc: bool) -> usize
-    ensures { λ r. ⌜ (r ≡ trailerLen crc) × (r ≤ 2) × (1 ≤ r) ⌝ }
+    ensures { λ r. ⌜ (r ≡ trailerLen crc) × (r ≤ «CRC_LEN») × («CHECKSUM_LEN» ≤ r) ⌝ }
 {
     if crc { CRC_LEN } else { CHECKSUM_LEN }
 }

@@ -4,12 +4,13 @@ ghost use mathlib.Core.List.{[], _∷_};
 ghost use Prim.Native.Nat.{_≤_};
 ghost use Rattle.laws.specs.Answer.{Answer.refused};
 ghost use Rattle.packet_head.specs.Header.{control};
-ghost use Rattle.packet_head.specs.Numbers.{«MAC_LEN»};
+ghost use Rattle.packet_head.specs.Numbers.{«MAC_LEN», «MAX_LEN»};
 ghost use Rattle.packet_head.specs.Trailer.{macLen};
 ghost use Rattle.packet_parse.specs.Frame.{macPlace, macStart, macAt, blockPlace, headOf, headAnswer, restOf, frameOf, parseOf, parsed};
 use super::trailing::TrailerAnswer;
 use super::trailing::check;
 use packet_head::Address;
+use packet_head::CODE_LEN;
 use packet_head::ControlAnswer;
 use packet_head::ControlByte;
 use packet_head::HEAD_AND_CODE_LEN;
@@ -114,16 +115,16 @@ fn parse_rest(
     at: usize,
     mac: bool,
 ) -> Parsed
-    requires { ⌜ at ≤ 65535 ⌝ }
+    requires { ⌜ at ≤ «MAX_LEN» ⌝ }
     ensures { λ r. ⌜ parsed r ≡ restOf (now (f .entry)) (addr .0) (control ctrl) (blockPlace block) at mac ⌝ }
 {
     let n = f.len();
     let t = trailer_len(ctrl.crc);
-    if n < at + 1 + t {
+    if n < at + CODE_LEN + t {
         return bad_length(n);
     }
     let m = mac_len(mac);
-    if n < at + 1 + m + t {
+    if n < at + CODE_LEN + m + t {
         return bad_length(n);
     }
     match check(f, ctrl.crc) {
@@ -132,8 +133,8 @@ fn parse_rest(
             ctrl,
             block,
             code: f[at],
-            data_start: at + 1,
-            data_len: n - (at + 1 + m + t),
+            data_start: at + CODE_LEN,
+            data_len: n - (at + CODE_LEN + m + t),
             len: n,
             mac: mac_part(mac, n - (m + t)),
             trailer,

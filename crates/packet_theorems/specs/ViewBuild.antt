@@ -7,6 +7,7 @@ use mathlib.Core.List.{List, []}
 use lib.Dec.{eqb}
 use lib.ListN.{length, getD}
 use Rattle.laws.specs.Answer.{Answer.given}
+use Rattle.packet_head.specs.Numbers.{«MAC_LEN»}
 use Rattle.packet_head.specs.Header.{control}
 use Rattle.packet_head.specs.Block.{typeOf}
 use Rattle.packet_parse.specs.Frame.{parseOf}
@@ -58,4 +59,4 @@ packetShown v = record { addr = v .addr; ctrl = v .ctrl; block = blockShown (v .
 
 -- the MAC that the view shows: four bytes, or none
 abbrev pub macShown : List ℕ → GivenMac
-macShown l = cond (eqb (length l) 4) (GivenMac.Is (getD l 0 0) (getD l 1 0) (getD l 2 0) (getD l 3 0)) GivenMac.Absent
+macShown l = cond (eqb (length l) «MAC_LEN») (GivenMac.Is (getD l 0 0) (getD l 1 0) (getD l 2 0) (getD l 3 0)) GivenMac.Absent

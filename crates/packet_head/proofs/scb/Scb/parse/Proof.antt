@@ -16,15 +16,12 @@ returns : tie.Need-returns
 unfolding scbOf refuseIf
 returns c = rw (lt-ltb _ _ (c .if1 .taken))
 
+cast-len : tie.Need-cast-len
+cast-len c = omega (arith, c .shared-slice-known2 .given 0)
+
 returns-2 : tie.Need-returns-2
 unfolding scbOf refuseIf
 returns-2 c = rw (le-ltb _ _ (c .before .before .before .if1 .left), lt-ltb _ _ (c .before .if2 .taken))
-
-cast-if3 : tie.Need-cast-if3
-cast-if3 c = omega (arith, c .before .shared-slice-known2 .given 0)
-
-cast-t16 : tie.Need-cast-t16
-cast-t16 c = omega (arith, c .before .before .shared-slice-known2 .given 0)
 
 returns-3 : tie.Need-returns-3
 unfolding scbOf refuseIf
@@ -44,6 +41,9 @@ two-there c = c .before .before
 -- the type byte
 abbrev typeByte : tie.After-from-byte → ℕ
 typeByte k = getD (two-there (two-or-more (fits k)) .before .before .args .buf .now) 1 0
+
+cast-t20 : tie.Need-cast-t20
+cast-t20 c = omega (arith, two-or-more (fits (c .before .before .before)) .before .shared-slice-known2 .given 0)
 
 returns-4 : tie.Need-returns-4
 unfolding scbOf refuseIf andThen
@@ -67,14 +67,14 @@ parse-spec =
     (tie.spec
     returns
     (λ c. search needs)
+    cast-len
     (λ c. search needs)
     returns-2
-    cast-if3
-    cast-t16
     returns-3
     (λ c. search needs)
     (λ c κs. search needs)
     (λ c. search needs)
+    cast-t20
     (λ c. search needs)
     returns-4
     returns-5)
