@@ -23,7 +23,7 @@ use Rattle.packet_parse.specs.Frame.{Fields, parseOf}
 use Rattle.packet_build.specs.Build.{FrameBlock.scb, FrameParts, buildOf, partsGiven}
 use Rattle.packet_build.specs.declared.codec.BuildBlock.{BuildBlock}
 use Rattle.packet_build.specs.declared.codec.GivenMac.{GivenMac}
-use Rattle.packet_view.specs.View.{Part, Shown, placesOf, placesTold, bytesAt, dataIn, payloadOf}
+use Rattle.packet_view.specs.View.{Span, Shown, placesOf, placesTold, bytesAt, dataIn, payloadOf}
 use Rattle.packet_view.specs.declared.parts.Places.{Places}
 use Rattle.secure_session.specs.declared.session.Session.{Session}
 use Rattle.secure_seal.specs.Seal.{SealDone, sealOf, sealTold}
@@ -109,12 +109,12 @@ pub wire-given : (ty : ScsType) (a : Address) (n : Sqn) (c : Bool) (l : List ℕ
     → partsGiven (record { addr = a; ctrl = ctrl; block = BuildBlock.Of ty; code = k }) l x GivenMac.Absent ≡ wireParts (typeOf ty) (wireOf a n c l k o) x
 wire-given ty a n c l k o x ctrl e = ap (λ (t : Control). record { addr = a .0; ctrl = t; block = scb (typeOf ty) l; code = k; «data» = x; mac = [] }) e
 
-read-there : (f : List ℕ) (a : Answer Fields) → take (placesOf a .payload .1) (drop (placesOf a .payload .0) f) ≡ bytesAt f dataIn a
+read-there : (f : List ℕ) (a : Answer Fields) → take (placesOf a .payload .len) (drop (placesOf a .payload .at) f) ≡ bytesAt f dataIn a
 unfolding placesOf
 read-there f (given F) = refl
 read-there f (refused n vs) = refl
 
-pub payload-there : (f : List ℕ) → take (placesOf (parseOf f) .payload .1) (drop (placesOf (parseOf f) .payload .0) f) ≡ payloadOf f
+pub payload-there : (f : List ℕ) → take (placesOf (parseOf f) .payload .len) (drop (placesOf (parseOf f) .payload .at) f) ≡ payloadOf f
 unfolding payloadOf
 payload-there f = read-there f (parseOf f)
 
@@ -129,11 +129,11 @@ module _ (ty : ℕ) (w : Wire) (x : List ℕ) (q : FrameParts) (r : LengthAnswer
       let o₁ = ho ∙ ap (written (w .out)) b in
       let l₁ = ap₂ onLine r₁ o₁ in
       let p₁ = ap (λ (s : Shown). s .payload) hp ∙ ap (λ (l : List ℕ). placesOf (parseOf l) .payload) (hf ∙ l₁) in
-      let x₁ = ap₂ (λ (l : List ℕ) (t : Part). take (t .1) (drop (t .0) l)) l₁ p₁ ∙ payload-there _ in
+      let x₁ = ap₂ (λ (l : List ℕ) (t : Span). take (t .len) (drop (t .at) l)) l₁ p₁ ∙ payload-there _ in
       (λ i. record { sent = r₁ i; out = o₁ i; place = p₁ i; read = x₁ i })
 
 pub carriage-settled : (r s : CarriedMessage) (o p : List ℕ) → carriageTold r o ≡ carriageTold s p → (r ≡ s) × (o ≡ p)
 carriage-settled r s o p e = (
-  λ i. record { sent = length-settled (r .sent) (s .sent) (ap (λ (c : Carriage). c .sent) e) i; start = e i .place .0; len = e i .place .1 },
+  λ i. record { sent = length-settled (r .sent) (s .sent) (ap (λ (c : Carriage). c .sent) e) i; start = e i .place .at; len = e i .place .len },
   ap (λ (c : Carriage). c .out) e,
 )

@@ -13,7 +13,7 @@ use Rattle.packet_head.specs.declared.header.Sqn.{Sqn}
 use Rattle.packet_parse.specs.Frame.{parseOf}
 use Rattle.packet_build.specs.Build.{FrameBlock.scb, FrameParts, FrameSizes, totalLen, buildOf}
 use Rattle.slices.specs.Stretch.{Stretch, stretchIn}
-use Rattle.packet_view.specs.View.{Part, placesOf, payloadOf}
+use Rattle.packet_view.specs.View.{Span, placesOf, payloadOf}
 use Rattle.refusal.specs.Reading.{lengthAnswer}
 use Rattle.channel.specs.declared.messages.CarriedMessage.{CarriedMessage}
 
@@ -43,7 +43,7 @@ lineSeen a o = stretchIn o 0 (onLine a (now o))
 pub record Carriage : Type 0 where
   pub sent : Answer ℕ
   pub out : List ℕ
-  pub place : Part
+  pub place : Span
   pub read : List ℕ
 
 unfoldable pub carriage : ℕ → Wire → List ℕ → Carriage
@@ -77,6 +77,6 @@ carriageTold r o =
     record {
       sent = lengthAnswer (r .sent);
       out = o;
-      place = (r .start, r .len);
+      place = record { at = r .start; len = r .len };
       read = take (r .len) (drop (r .start) (onLine (lengthAnswer (r .sent)) o));
     }

@@ -13,7 +13,7 @@ use Rattle.crossing.specs.declared.parse.CHead.{CHead}
 use Rattle.crossing.specs.declared.parse.CParsed.{CParsed}
 
 abbrev pub cBlock : Answer BlockRead → CBlock
-cBlock (given b) = record { answer = cGiven 0; ty = b .0; «data_len» = b .1 }
+cBlock (given b) = record { answer = cGiven 0; ty = b .type; «data_len» = b .dataLen }
 cBlock (refused n vs) = record { answer = cRefused n vs; ty = 0; «data_len» = 0 }
 
 abbrev pub cHead : Answer Head → CHead

@@ -109,7 +109,7 @@ abbrev blockFrom : ScsType → ℕ → Scb
 blockFrom t n = record { ty = t; «data_len» = n }
 
 abbrev scbFrom : Answer BlockRead → ScbAnswer
-scbFrom (given b) = ScbAnswer.Good (blockFrom (typeFrom (b .0)) (b .1))
+scbFrom (given b) = ScbAnswer.Good (blockFrom (typeFrom (b .type)) (b .dataLen))
 scbFrom (refused n vs) = ScbAnswer.Refused (named n vs)
 
 scb-back : (r : ScbAnswer) → scbFrom (scbAnswer r) ≡ r

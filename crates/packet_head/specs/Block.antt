@@ -32,8 +32,9 @@ abbrev pub isHandshake : ℕ → Bool
 isHandshake ty = between 0x11 0x14 ty
 
 -- a block's type, and how many bytes of data it has
-abbrev pub BlockRead : Type 0
-BlockRead = ℕ × ℕ
+pub record BlockRead : Type 0 where
+  pub type : ℕ
+  pub dataLen : ℕ
 
 -- fewer than two bytes; its own length below 2: refusal 5, with the type byte; longer than what is there, counted from its first byte; its type
 unfoldable pub scbOf : List ℕ → Answer BlockRead
@@ -41,7 +42,7 @@ scbOf b =
     refuseIf (ltb (length b) «SCB_HEADER_LEN») 1 (length b ∷ «SCB_HEADER_LEN» ∷ [])
     (refuseIf (ltb (getD b 0 0) «SCB_HEADER_LEN») 5 (getD b 1 0 ∷ [])
     (refuseIf (ltb (length b) (getD b 0 0)) 1 (length b ∷ getD b 0 0 ∷ [])
-    (andThen (scsOf (getD b 1 0)) (λ ty. given (ty, getD b 0 0 - «SCB_HEADER_LEN»)))))
+    (andThen (scsOf (getD b 1 0)) (λ ty. given (record { type = ty; dataLen = getD b 0 0 - «SCB_HEADER_LEN» })))))
 
 -- ---- the code's kinds, as the paper has them
 
@@ -60,5 +61,5 @@ scsAnswer (ScsAnswer.Good t) = given (typeOf t)
 scsAnswer (ScsAnswer.Refused e) = refusalOf e
 
 abbrev pub scbAnswer : ScbAnswer → Answer BlockRead
-scbAnswer (ScbAnswer.Good b) = given (typeOf (b .ty), b .«data_len»)
+scbAnswer (ScbAnswer.Good b) = given (record { type = typeOf (b .ty); dataLen = b .«data_len» })
 scbAnswer (ScbAnswer.Refused e) = refusalOf e

@@ -78,7 +78,7 @@ frame-kept : (f : List ℕ) (a : ℕ) (c : Control) → Holds (Kept f a c) (fram
 unfolding frameOf
 frame-kept f a c =
     holds-refuse _ _ _ _ _ (λ _. holds-choose _ _ _ _
-    (λ e. holds-then _ _ _ (λ b _. rest-kept f a c (blockAt (b .0) 7 (b .1)) (7 + b .1) (hasMac (b .0)) (sym e)))
+    (λ e. holds-then _ _ _ (λ b _. rest-kept f a c (blockAt (b .type) 7 (b .dataLen)) (7 + b .dataLen) (hasMac (b .type)) (sym e)))
     (λ e. rest-kept f a c noBlock 5 false (sym e)))
 
 told : (s : List ℕ) → Holds (Told s) (parseOf s)

@@ -33,7 +33,7 @@ rest-due : (f : List ℕ) (a : ℕ) (c : Control) (b : BlockAt) (at : ℕ) → T
 unfolding restOf
 rest-due f a c b at k = holds-refuse _ _ _ _ _ (λ _. holds-refuse _ _ _ _ _ (λ _. holds-then _ _ _ (λ t _. (k, there-at (hasMac (typeIn b)) _))))
 
-read-type-known : (b : List ℕ) → Holds (λ (r : BlockRead). (0x11 ≤ r .0) × (r .0 ≤ 0x18)) (scbOf b)
+read-type-known : (b : List ℕ) → Holds (λ (r : BlockRead). (0x11 ≤ r .type) × (r .type ≤ 0x18)) (scbOf b)
 unfolding scbOf
 read-type-known b =
     holds-refuse _ _ _ _ _ (λ _. holds-refuse _ _ _ _ _ (λ _. holds-refuse _ _ _ _ _ (λ _.
@@ -43,7 +43,7 @@ frame-due : (f : List ℕ) (a : ℕ) (c : Control) → Holds Due (frameOf f a c)
 unfolding frameOf
 frame-due f a c =
     holds-refuse _ _ _ _ _ (λ _. holds-choose _ _ _ _
-    (λ _. holds-then _ _ _ (λ b e. rest-due f a c (blockAt (b .0) 7 (b .1)) (7 + b .1) (holds-given _ (scbOf (drop 5 f)) b (read-type-known (drop 5 f)) e)))
+    (λ _. holds-then _ _ _ (λ b e. rest-due f a c (blockAt (b .type) 7 (b .dataLen)) (7 + b .dataLen) (holds-given _ (scbOf (drop 5 f)) b (read-type-known (drop 5 f)) e)))
     (λ _. rest-due f a c noBlock 5 tt))
 
 parse-due : (s : List ℕ) → Holds Due (parseOf s)

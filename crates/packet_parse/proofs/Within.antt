@@ -62,7 +62,7 @@ frame-inside : (f : List ℕ) (a : ℕ) (c : Control) → Holds (Inside (length 
 unfolding frameOf
 frame-inside f a c =
     holds-refuse _ _ _ _ _ (λ _. holds-choose _ _ _ _
-    (λ _. holds-then _ _ _ (λ b _. rest-inside f a c (blockAt (b .0) 7 (b .1)) (7 + b .1) (hasMac (b .0)) (omega arith) (omega arith, omega arith)))
+    (λ _. holds-then _ _ _ (λ b _. rest-inside f a c (blockAt (b .type) 7 (b .dataLen)) (7 + b .dataLen) (hasMac (b .type)) (omega arith) (omega arith, omega arith)))
     (λ _. rest-inside f a c noBlock 5 false (omega arith) (omega arith)))
 
 pub parse-inside : (s : List ℕ) → Holds (Inside (length s)) (parseOf s)

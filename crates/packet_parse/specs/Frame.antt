@@ -108,7 +108,7 @@ unfoldable pub frameOf : List ℕ → ℕ → Control → Answer Fields
 frameOf f addr ctrl =
     refuseIf (ltb (length f) («HEADER_LEN» + «CODE_LEN» + trailerLen (ctrl .crc))) 4 (length f ∷ length f ∷ [])
     (choose (ctrl .block)
-    (andThen (scbOf (drop «HEADER_LEN» f)) (λ b. restOf f addr ctrl (blockAt (b .0) «SCB_DATA_AT» (b .1)) («SCB_DATA_AT» + b .1) (hasMac (b .0))))
+    (andThen (scbOf (drop «HEADER_LEN» f)) (λ b. restOf f addr ctrl (blockAt (b .type) «SCB_DATA_AT» (b .dataLen)) («SCB_DATA_AT» + b .dataLen) (hasMac (b .type))))
     (restOf f addr ctrl noBlock «HEADER_LEN» false))
 
 -- the head; fewer bytes than LEN; the first LEN bytes

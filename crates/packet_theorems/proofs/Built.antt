@@ -90,7 +90,7 @@ rest-back x a c k at mac h =
 
 -- ---- the block
 
-block-read-back : (l r : List ℕ) (ty : ℕ) → scsOf ty ≡ given ty → scbOf ((length l + 2) ∷ ty ∷ (l ++ r)) ≡ given (ty, length l)
+block-read-back : (l r : List ℕ) (ty : ℕ) → scsOf ty ≡ given ty → scbOf ((length l + 2) ∷ ty ∷ (l ++ r)) ≡ given (record { type = ty; dataLen = length l })
 unfolding scbOf refuseIf andThen
 block-read-back l r ty e =
     let n : length (l ++ r) ≡ length l + length r = length-append l r in
@@ -119,7 +119,7 @@ frame-block x l r ty a c e t d h =
     let f = x ++ tailBytes (c .crc) x in
     let n : length f ≡ length x + trailerLen (c .crc) = length-append x (tailBytes (c .crc) x) ∙ ap (λ (n : ℕ). length x + n) (tail-length (c .crc) x) in
     let h₁ : 6 + trailerLen (c .crc) ≤ length f = omega arith in
-    let k : scbOf (drop 5 f) ≡ given (ty, length l) = ap scbOf d ∙ block-read-back l r ty t in
+    let k : scbOf (drop 5 f) ≡ given (record { type = ty; dataLen = length l }) = ap scbOf d ∙ block-read-back l r ty t in
     rw (le-ltb _ _ h₁, k) (choose-true _ _ _ e ∙ rest-back x a c (blockAt ty 7 (length l)) (7 + length l) (hasMac ty) (omega arith))
 
 -- ---- the header

@@ -77,7 +77,7 @@ kind-asked : (k : BlockKind) → kindOf k ≡ typeAsked (blockShown k)
 kind-asked BlockKind.Absent = refl
 kind-asked (BlockKind.Present ty) = refl
 
-no-block-data : (B : BlockAt) (s : List ℕ) → TypeKnown B → typeIn B ≡ 0 → take (blockIn B .1) (drop (blockIn B .0) s) ≡ []
+no-block-data : (B : BlockAt) (s : List ℕ) → TypeKnown B → typeIn B ≡ 0 → take (blockIn B .len) (drop (blockIn B .at) s) ≡ []
 no-block-data noBlock s k e = refl
 no-block-data (blockAt ty start len) s k e = absurd (omega arith)
 
@@ -85,7 +85,7 @@ shown-data : (k : BlockKind) (l : List ℕ) → (kindOf k ≡ 0 → l ≡ []) �
 shown-data BlockKind.Absent l h = h refl
 shown-data (BlockKind.Present ty) l h = refl
 
-mac-of-length : (m : MacAt) (l : List ℕ) → length l ≡ macIn m .1 → l ≡ macBytes (macShown l)
+mac-of-length : (m : MacAt) (l : List ℕ) → length l ≡ macIn m .len → l ≡ macBytes (macShown l)
 mac-of-length noMac l e = let z : [] ≡ l = nothing l e in sym z ∙ ap (λ (x : List ℕ). macBytes (macShown x)) z
 mac-of-length (macFrom at) l e =
     sym (all-listed l 4 e)

@@ -13,7 +13,7 @@ use lib.Seq.{length-take-le, take-suc, take-add, drop-cons, getD-drop, getD-take
 use Rattle.packet_sums.specs.Crc.{crcOf}
 use Rattle.laws.specs.Answer.{Answer.given, andThen}
 use Rattle.packet_head.specs.Header.{Control, controlOf, ctrlByte}
-use Rattle.packet_head.specs.Block.{hasMac, scsOf, scbOf}
+use Rattle.packet_head.specs.Block.{BlockRead, hasMac, scsOf, scbOf}
 use Rattle.packet_head.specs.Trailer.{Tail, trailerLen, macLen}
 use Rattle.laws.specs.Bytes.{Bytes}
 use Rattle.laws.proofs.ByteLists.{bytes-nil, bytes-cons, bytes-take}
@@ -182,9 +182,9 @@ type-there : (b : ℕ) → Holds (λ ty. ty ≡ b) (scsOf b)
 unfolding scsOf
 type-there b = holds-refuse _ _ _ _ _ (λ h. refl)
 
-record Blocked (g : List ℕ) (b : ℕ × ℕ) : Type 0 where
-  type : b .0 ≡ getD g 1 0
-  size : b .1 + 2 ≡ getD g 0 0
+record Blocked (g : List ℕ) (b : BlockRead) : Type 0 where
+  type : b .type ≡ getD g 1 0
+  size : b .dataLen + 2 ≡ getD g 0 0
   inside : getD g 0 0 ≤ length g
   two : 2 ≤ length g
 
@@ -198,19 +198,19 @@ block-there g =
 placed-none : (f : List ℕ) (a : ℕ) (c : Control) → Headed f a c → c .block ≡ false → Placed f a c noBlock 5 false
 placed-none f a c h e = record { front = append-nil _ ∙ head-there f a c h; size = refl; flag = sym e; due = refl; small = omega arith }
 
-placed-block : (f : List ℕ) (a : ℕ) (c : Control) (b : ℕ × ℕ) → Headed f a c → c .block ≡ true → Blocked (drop 5 f) b → Placed f a c (blockAt (b .0) 7 (b .1)) (7 + b .1) (hasMac (b .0))
+placed-block : (f : List ℕ) (a : ℕ) (c : Control) (b : BlockRead) → Headed f a c → c .block ≡ true → Blocked (drop 5 f) b → Placed f a c (blockAt (b .type) 7 (b .dataLen)) (7 + b .dataLen) (hasMac (b .type))
 placed-block f a c b h e k =
     let l = length-drop 5 f in
-    let n : length (take (b .1) (drop 7 f)) ≡ b .1 = part-length f 7 (b .1) (omega (arith, k .size, k .inside)) in
+    let n : length (take (b .dataLen) (drop 7 f)) ≡ b .dataLen = part-length f 7 (b .dataLen) (omega (arith, k .size, k .inside)) in
     let byte : getD (drop 5 f) 0 0 < 256 = rw getD-drop (h .bytes (5 + 0)) in
-    let z : length (take (b .1) (drop 7 f)) + 2 ≡ getD (drop 5 f) 0 0 = omega (arith, k .size) in
+    let z : length (take (b .dataLen) (drop 7 f)) + 2 ≡ getD (drop 5 f) 0 0 = omega (arith, k .size) in
     record {
       front =
           ap₂ (λ (x y : List ℕ). x ++ y) (head-there f a c h)
-          (ap₂ (λ (x y : ℕ). x ∷ y ∷ take (b .1) (drop 7 f)) z (k .type)
-          ∙ ap (λ (y : List ℕ). y ++ take (b .1) (drop 7 f)) (front-listed (drop 5 f) 2 (k .two)))
-          ∙ sym (append-assoc (take 5 f) (take 2 (drop 5 f)) (take (b .1) (drop 7 f)))
-          ∙ ap (λ (y : List ℕ). y ++ take (b .1) (drop 7 f)) (sym (take-add 5 2 f)) ∙ sym (take-add 7 (b .1) f);
+          (ap₂ (λ (x y : ℕ). x ∷ y ∷ take (b .dataLen) (drop 7 f)) z (k .type)
+          ∙ ap (λ (y : List ℕ). y ++ take (b .dataLen) (drop 7 f)) (front-listed (drop 5 f) 2 (k .two)))
+          ∙ sym (append-assoc (take 5 f) (take 2 (drop 5 f)) (take (b .dataLen) (drop 7 f)))
+          ∙ ap (λ (y : List ℕ). y ++ take (b .dataLen) (drop 7 f)) (sym (take-add 5 2 f)) ∙ sym (take-add 7 (b .dataLen) f);
       size = omega arith;
       flag = sym e;
       due = refl;
@@ -224,7 +224,7 @@ frame-there f a c hd =
     let q : 6 + trailerLen (c .crc) ≤ length f = ltb-false _ _ l in
     let h = hd (omega arith) in
     holds-choose _ _ _ _
-    (λ e. holds-then _ _ _ (λ b g. rest-there f a c (blockAt (b .0) 7 (b .1)) (7 + b .1) (hasMac (b .0)) h (placed-block f a c b h e (holds-given (Blocked (drop 5 f)) (scbOf (drop 5 f)) b (block-there (drop 5 f)) g))))
+    (λ e. holds-then _ _ _ (λ b g. rest-there f a c (blockAt (b .type) 7 (b .dataLen)) (7 + b .dataLen) (hasMac (b .type)) h (placed-block f a c b h e (holds-given (Blocked (drop 5 f)) (scbOf (drop 5 f)) b (block-there (drop 5 f)) g))))
     (λ e. rest-there f a c noBlock 5 false h (placed-none f a c h e)))
 
 -- ---- the first LEN bytes

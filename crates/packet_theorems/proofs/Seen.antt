@@ -24,11 +24,11 @@ part-before f rest at n h =
     let k : n ≤ length (drop at f) = omega (arith, length-drop at f) in
     ap (take n) (drop-append-le at f rest (omega arith)) ∙ take-append-le n (drop at f) rest k
 
-block-data-from : (b : BlockAt) (f : List ℕ) → take (blockIn b .1) (drop (blockIn b .0) f) ≡ blockDataIn (frameBlockFrom b f)
+block-data-from : (b : BlockAt) (f : List ℕ) → take (blockIn b .len) (drop (blockIn b .at) f) ≡ blockDataIn (frameBlockFrom b f)
 block-data-from noBlock f = refl
 block-data-from (blockAt ty start len) f = refl
 
-mac-from : (m : MacAt) (f : List ℕ) → take (macIn m .1) (drop (macIn m .0) f) ≡ macBytesFrom m f
+mac-from : (m : MacAt) (f : List ℕ) → take (macIn m .len) (drop (macIn m .at) f) ≡ macBytesFrom m f
 mac-from noMac f = refl
 mac-from (macFrom at) f = refl
 

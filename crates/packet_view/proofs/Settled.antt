@@ -49,12 +49,12 @@ placesWith x o k t =
       code = x .code;
       trailer = t;
       len = x .len;
-      «block_at» = x .block .0;
-      «block_len» = x .block .1;
-      «data_at» = x .payload .0;
-      «data_len» = x .payload .1;
-      «mac_at» = x .mac .0;
-      «mac_len» = x .mac .1;
+      «block_at» = x .block .at;
+      «block_len» = x .block .len;
+      «data_at» = x .payload .at;
+      «data_len» = x .payload .len;
+      «mac_at» = x .mac .at;
+      «mac_len» = x .mac .len;
     }
 
 abbrev placesFrom : Shown → Places

@@ -19,19 +19,23 @@ use Rattle.packet_view.specs.declared.view.PacketView.{PacketView}
 
 -- ---- a part: its place, counted from the frame's first byte, and its length
 
-abbrev pub Part : Type 0
-Part = ℕ × ℕ
+pub record Span : Type 0 where
+  pub at : ℕ
+  pub len : ℕ
+
+abbrev pub nowhere : Span
+nowhere = record { at = 0; len = 0 }
 
 -- where an accepted frame has its parts; without a block or a MAC, nowhere
-abbrev pub blockIn : BlockAt → Part
-blockIn b = (blockStart b, blockLen b)
+abbrev pub blockIn : BlockAt → Span
+blockIn b = record { at = blockStart b; len = blockLen b }
 
-abbrev pub dataIn : Fields → Part
-dataIn F = (F .dataStart, F .dataLen)
+abbrev pub dataIn : Fields → Span
+dataIn F = record { at = F .dataStart; len = F .dataLen }
 
-abbrev pub macIn : MacAt → Part
-macIn noMac = (0, 0)
-macIn (macFrom at) = (at, «MAC_LEN»)
+abbrev pub macIn : MacAt → Span
+macIn noMac = nowhere
+macIn (macFrom at) = record { at = at; len = «MAC_LEN» }
 
 -- ---- what a view tells
 
@@ -43,9 +47,9 @@ pub record Shown : Type 0 where
   pub code : ℕ
   pub trailer : Tail
   pub len : ℕ
-  pub block : Part
-  pub payload : Part
-  pub mac : Part
+  pub block : Span
+  pub payload : Span
+  pub mac : Span
 
 -- of an accepted frame its fields; after a refusal nothing else, and the parts are empty
 unfoldable pub placesOf : Answer Fields → Shown
@@ -71,16 +75,16 @@ placesOf (refused n vs) =
       code = 0;
       trailer = checksum 0;
       len = 0;
-      block = (0, 0);
-      payload = (0, 0);
-      mac = (0, 0);
+      block = nowhere;
+      payload = nowhere;
+      mac = nowhere;
     }
 
 -- ---- the three parts, of the frame at the start of s
 
 -- the bytes of an accepted frame at p; after a refusal none
-abbrev pub bytesAt : List ℕ → (Fields → Part) → Answer Fields → List ℕ
-bytesAt s p (given F) = take (p F .1) (drop (p F .0) s)
+abbrev pub bytesAt : List ℕ → (Fields → Span) → Answer Fields → List ℕ
+bytesAt s p (given F) = take (p F .len) (drop (p F .at) s)
 bytesAt s p (refused n vs) = []
 
 unfoldable pub blockDataOf : List ℕ → List ℕ
@@ -93,8 +97,8 @@ unfoldable pub frameMacOf : List ℕ → List ℕ
 frameMacOf s = bytesAt s (λ F. macIn (F .mac)) (parseOf s)
 
 -- where p begins in an accepted frame; after a refusal the part is the frame's empty first one
-abbrev pub startAt : (Fields → Part) → Answer Fields → ℕ
-startAt p (given F) = p F .0
+abbrev pub startAt : (Fields → Span) → Answer Fields → ℕ
+startAt p (given F) = p F .at
 startAt p (refused n vs) = 0
 
 -- each part as a slice: its bytes, at their place of the caller's slice
@@ -123,9 +127,9 @@ placesTold p =
       code = p .code;
       trailer = tail (p .trailer);
       len = p .len;
-      block = (p .«block_at», p .«block_len»);
-      payload = (p .«data_at», p .«data_len»);
-      mac = (p .«mac_at», p .«mac_len»);
+      block = record { at = p .«block_at»; len = p .«block_len» };
+      payload = record { at = p .«data_at»; len = p .«data_len» };
+      mac = record { at = p .«mac_at»; len = p .«mac_len» };
     }
 
 -- a view's frame, and what it tells
@@ -140,8 +144,8 @@ viewed v = (
     code = v .code;
     trailer = tail (v .trailer);
     len = v .len;
-    block = (v .«block_at», v .«block_len»);
-    payload = (v .«data_at», v .«data_len»);
-    mac = (v .«mac_at», v .«mac_len»);
+    block = record { at = v .«block_at»; len = v .«block_len» };
+    payload = record { at = v .«data_at»; len = v .«data_len» };
+    mac = record { at = v .«mac_at»; len = v .«mac_len» };
   },
 )

@@ -59,7 +59,7 @@ fn block_kind(b: BlockPart) -> BlockKind
 }
 
 fn block_span(b: BlockPart) -> Span
-    ensures { λ r. ⌜ (r .at ≡ blockIn (blockPlace b) .0) × (r .len ≡ blockIn (blockPlace b) .1) ⌝ }
+    ensures { λ r. ⌜ (r .at ≡ blockIn (blockPlace b) .at) × (r .len ≡ blockIn (blockPlace b) .len) ⌝ }
 {
     match b {
         BlockPart::Absent => Span { at: 0, len: 0 },
@@ -68,7 +68,7 @@ fn block_span(b: BlockPart) -> Span
 }
 
 fn mac_span(m: MacPart) -> Span
-    ensures { λ r. ⌜ (r .at ≡ macIn (macPlace m) .0) × (r .len ≡ macIn (macPlace m) .1) ⌝ }
+    ensures { λ r. ⌜ (r .at ≡ macIn (macPlace m) .at) × (r .len ≡ macIn (macPlace m) .len) ⌝ }
 {
     match m {
         MacPart::Absent => Span { at: 0, len: 0 },

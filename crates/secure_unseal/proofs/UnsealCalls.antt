@@ -45,7 +45,7 @@ frame-placed : (f : List ℕ) (a : ℕ) (c : Control) → Holds Placed (frameOf 
 unfolding frameOf
 frame-placed f a c =
     holds-refuse _ _ _ _ _ (λ _. holds-choose _ _ _ _
-    (λ _. holds-then _ _ _ (λ b e. rest-placed f a c (blockAt (b .0) 7 (b .1)) (7 + b .1)))
+    (λ _. holds-then _ _ _ (λ b e. rest-placed f a c (blockAt (b .type) 7 (b .dataLen)) (7 + b .dataLen)))
     (λ _. rest-placed f a c noBlock 5))
 
 parse-placed : (s : List ℕ) → Holds Placed (parseOf s)

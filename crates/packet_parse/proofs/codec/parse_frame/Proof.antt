@@ -32,7 +32,7 @@ returns-2 c =
     let b = c .before .before .before .before .b .given in
     let h : 6 + trailerLen (a .ctrl .crc) ≤ length f = omega arith in
     let d : take (length f - 5) (drop 5 f) ≡ drop 5 f = take-all (length f - 5) (drop 5 f) (simp length-drop (omega arith)) in
-    let e : scbOf (drop 5 f) ≡ given (typeOf (b .0 .0 .ty), b .0 .0 .«data_len») = ap scbOf (sym d) ∙ sym (z .parse .ensures) ∙ ap scbAnswer (b .1) in
+    let e : scbOf (drop 5 f) ≡ given (record { type = typeOf (b .0 .0 .ty); dataLen = b .0 .0 .«data_len» }) = ap scbOf (sym d) ∙ sym (z .parse .ensures) ∙ ap scbAnswer (b .1) in
     rw (le-ltb _ _ h, e) (c .parse-rest .ensures ∙ rw (c .before .has-mac .ensures) (sym (choose-true _ _ _ (z .before .before .if2 .taken))))
 
 returns-3 : tie.Need-returns-3
