@@ -2,16 +2,16 @@
 -- Assumes nothing.
 use mathlib.Core.Bool.{Bool, true, false, cond}
 use mathlib.Core.List.{List, [], _∷_}
-use mathlib.Core.Path.{_≡_, refl, sym, ap, _∙_}
-use Prim.Native.Nat.{ℕ, _+_, _-_, _≤_, _<_}
-use native.Mathlib.Omega.{arith}
+use mathlib.Core.Path.{_≡_, refl, ap, _∙_}
+use Prim.Native.Nat.{ℕ, _+_, _≤_, _<_}
 use native.Mathlib.Nat.{zero-add}
-use borrow.Author.Tests.{lt-ltb, le-ltb, ltb-true, ltb-false}
+use borrow.Author.Tests.{lt-ltb, le-ltb}
 use lib.ListN.{length, take, drop}
 use denote.Ref.{RefT, now}
 use Rattle.laws.specs.Answer.{Answer.given, Answer.refused, refuseIf}
 use Rattle.slices.specs.Stretch.{stretchIn}
 use Rattle.slices.specs.Place.{runsPast, saturated, partOf, partStart, partSeen}
+use Rattle.slices.proofs.PlaceLaws.{part-in, part-out}
 use Rattle.secure_unseal.specs.Lookup.{sliceFor, runsOutside, payloadShown, lookupSlice, lookupStart, lookupSeen, placeTest, shownTest}
 
 -- ---- by the definitions alone
@@ -19,11 +19,11 @@ use Rattle.secure_unseal.specs.Lookup.{sliceFor, runsOutside, payloadSho
 module _ (i : Bool) (start len : ℕ) (f w : List ℕ) where
   pub shown-inside : start + len ≤ length (sliceFor i f w) → payloadShown i start len f w ≡ take len (drop start (sliceFor i f w))
   unfolding payloadShown
-  shown-inside h = rw (le-ltb (length (sliceFor i f w)) (start + len) h)
+  shown-inside h = part-in (sliceFor i f w) start len h
 
   pub shown-outside : length (sliceFor i f w) < start + len → payloadShown i start len f w ≡ []
   unfolding payloadShown
-  shown-outside h = rw (lt-ltb (length (sliceFor i f w)) (start + len) h)
+  shown-outside h = part-out (sliceFor i f w) start len h
 
   pub test-inside : start + len ≤ length (sliceFor i f w) → shownTest i start len f w ≡ given tt
   unfolding shownTest placeTest refuseIf
@@ -35,11 +35,11 @@ module _ (i : Bool) (start len : ℕ) (f w : List ℕ) where
 
 module _ (i : Bool) (start len : ℕ) (f w : RefT (List ℕ)) where
   pub seen-inside : start + len ≤ length (sliceFor i (now f) (now w)) → lookupSeen i start len f w ≡ stretchIn (sliceFor i f w) start (take len (drop start (sliceFor i (now f) (now w))))
-  unfolding payloadShown lookupSlice lookupStart
+  unfolding partOf partStart payloadShown lookupSlice lookupStart
   seen-inside h = rw (le-ltb (length (sliceFor i (now f) (now w))) (start + len) h)
 
   pub seen-outside : length (sliceFor i (now f) (now w)) < start + len → lookupSeen i start len f w ≡ stretchIn f 0 []
-  unfolding payloadShown lookupSlice lookupStart
+  unfolding partOf partStart payloadShown lookupSlice lookupStart
   seen-outside h = rw (lt-ltb (length (sliceFor i (now f) (now w))) (start + len) h)
 
 -- ---- as the code finds it
@@ -66,7 +66,7 @@ module _ (i : Bool) (start len : ℕ) (f w : RefT (List ℕ)) {s : RefT (List �
   out-for = ap (λ (l : List ℕ). runsPast (length l) start len) bytes-for
 
   pub shows-nothing : {o : Bool} → o ≡ runsPast (length (now s)) start len → o ≡ true → (f .ptr, []) ≡ lookupSeen i start len f w
-  unfolding payloadShown lookupSlice lookupStart
+  unfolding partOf partStart payloadShown lookupSlice lookupStart
   shows-nothing ho h = rw (← out-for, ← ho, h, zero-add)
 
   pub shows-part : {o : Bool} → o ≡ runsPast (length (now s)) start len → o ≡ false → partSeen s start len ≡ lookupSeen i start len f w

@@ -3,11 +3,11 @@
 use Prim.Native.Nat.{ℕ, _+_}
 use mathlib.Core.Bool.{Bool, cond}
 use mathlib.Core.List.{List, [], _∷_}
-use lib.ListN.{length, take, drop}
+use lib.ListN.{length}
 use denote.Ref.{RefT, now}
 use Rattle.laws.specs.Answer.{Answer, Answer.given, refuseIf}
 use Rattle.slices.specs.Stretch.{Stretch, stretchIn}
-use Rattle.slices.specs.Place.{runsPast, saturated}
+use Rattle.slices.specs.Place.{runsPast, partOf, partStart, saturated}
 
 -- the slice that a place is in
 abbrev pub sliceFor : {A : Type 0} → Bool → A → A → A
@@ -19,14 +19,14 @@ runsOutside inWork start len f w = runsPast (length (sliceFor inWork f w)) start
 
 -- the bytes of the part, or none
 unfoldable pub payloadShown : Bool → ℕ → ℕ → List ℕ → List ℕ → List ℕ
-payloadShown inWork start len f w = cond (runsOutside inWork start len f w) [] (take len (drop start (sliceFor inWork f w)))
+payloadShown inWork start len f w = partOf (sliceFor inWork f w) start len
 
 -- the slice that it is a part of, and where it begins there: a place that runs outside has the frame's empty first part
 unfoldable pub lookupSlice : Bool → ℕ → ℕ → RefT (List ℕ) → RefT (List ℕ) → RefT (List ℕ)
 lookupSlice inWork start len f w = cond (runsOutside inWork start len (now f) (now w)) f (sliceFor inWork f w)
 
 unfoldable pub lookupStart : Bool → ℕ → ℕ → List ℕ → List ℕ → ℕ
-lookupStart inWork start len f w = cond (runsOutside inWork start len f w) 0 start
+lookupStart inWork start len f w = partStart (sliceFor inWork f w) start len
 
 -- the part, as a slice: these bytes, at that place of one of the caller's slices
 abbrev pub lookupSeen : Bool → ℕ → ℕ → RefT (List ℕ) → RefT (List ℕ) → Stretch
