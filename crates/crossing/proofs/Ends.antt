@@ -1,8 +1,6 @@
 -- A session that comes in is what C holds at the end and in the state that were read.
 -- Assumes nothing.
 use mathlib.Core.Path.{_≡_, refl, sym, ap, _∙_}
-use Prim.Native.Nat.{ℕ}
-use mathlib.Core.List.{List}
 use Rattle.laws.specs.Answer.{Answer, Answer.given, Answer.refused, andThen}
 use Rattle.refusal.specs.Reading.{outcomeAnswer}
 use Rattle.refusal.specs.declared.Outcome.{Outcome}

@@ -11,7 +11,6 @@ use Rattle.packet_head.proofs.Settled.{controlFrom, typeFrom, type-back}
 use Rattle.packet_build.specs.Build.{FrameBlock, FrameBlock.noScb, FrameBlock.scb, FrameParts, scbGiven, macBytes}
 use Rattle.packet_build.specs.declared.codec.BuildBlock.{BuildBlock}
 use Rattle.packet_build.specs.declared.codec.GivenMac.{GivenMac}
-use Rattle.packet_build.specs.declared.codec.PacketBuilder.{PacketBuilder}
 use Rattle.secure_session.specs.declared.session.Session.{Session}
 use Rattle.crossing.specs.Building.{AskedMeets, askedParts}
 use Rattle.crossing.specs.Sessions.{taken, sessionBeside}

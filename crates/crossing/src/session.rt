@@ -1,6 +1,5 @@
 // A session, by value, and what its calls answer.
 ghost use mathlib.Core.Path.{_≡_};
-ghost use Rattle.refusal.specs.Paper.{refusalOf};
 ghost use Rattle.secure_session.specs.declared.session.End.the-variants.{Controller};
 ghost use Rattle.secure_session.specs.declared.session.State.the-variants.{Disconnected};
 ghost use Rattle.secure_session.specs.Handshake.{stepped};

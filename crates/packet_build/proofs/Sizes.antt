@@ -11,7 +11,7 @@ use Rattle.laws.specs.Answer.{Answer.given, refuseIf}
 use Rattle.laws.proofs.Answers.{Holds, holds-refuse, holds-then, holds-given}
 use Rattle.packet_head.specs.Header.{Control}
 use Rattle.packet_head.specs.Trailer.{trailerLen, macLen}
-use Rattle.packet_build.specs.Build.{FrameBlock, FrameBlock.noScb, FrameBlock.scb, FrameParts, present, due, blockN, blockBytes, bodyBytes, coveredBytes, tailBytes, frameBytes, differ, FrameSizes, testOf, totalLen, sizesOf, buildOf}
+use Rattle.packet_build.specs.Build.{FrameBlock, FrameBlock.noScb, FrameBlock.scb, FrameParts, present, blockN, blockBytes, bodyBytes, coveredBytes, tailBytes, frameBytes, differ, FrameSizes, testOf, totalLen, sizesOf, buildOf}
 
 -- ---- lengths
 

@@ -2,7 +2,6 @@
 ghost use mathlib.Core.Path.{_≡_};
 ghost use mathlib.Core.Bool.{cond};
 ghost use Prim.Native.Nat.{_≤_, _<_, _^_};
-ghost use lib.ListN.{length};
 ghost use Rattle.packet_head.specs.Numbers.{«MAC_LEN»};
 ghost use Rattle.packet_head.specs.Header.{control};
 ghost use Rattle.packet_build.specs.Build.{partsGiven, differ, testOf, sizesOf};

@@ -1,6 +1,6 @@
 -- The end of a frame: a checksum, or a CRC with its low byte first (docs/RULES.md, 2.5, 2.6 and 3).
 -- Assumes nothing.
-use Prim.Native.Nat.{ℕ, _+_, _-_, _*_}
+use Prim.Native.Nat.{ℕ, _-_}
 use mathlib.Core.Bool.{Bool, true, false, not}
 use mathlib.Core.List.{List, [], _∷_}
 use lib.Dec.{eqb}

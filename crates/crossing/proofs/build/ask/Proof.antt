@@ -1,7 +1,7 @@
 -- `ask` meets its contract: the number, then the block.
 -- Assumes nothing.
 use mathlib.Core.Path.{sym, ap, _∙_}
-use Rattle.laws.specs.Answer.{Answer.given, andThen}
+use Rattle.laws.specs.Answer.{andThen}
 use Rattle.packet_head.specs.Header.{sqnAnswer}
 use Rattle.crossing.specs.declared.build.Kind.{Kind}
 use Rattle.crossing.specs.Building.{partsArg, kindAnswer}

@@ -2,7 +2,6 @@
 -- Assumes nothing.
 use mathlib.Core.Path.{refl}
 use borrow.Author.Needs.{needs}
-use Rattle.slices.specs.Number.{lowFirst}
 use Rattle.slices.proofs.number.bytes_of_u32.Statement.{statement}
 use Rattle.slices.proofs.number.bytes_of_u32.Tie as tie
 
