@@ -1,17 +1,23 @@
 -- One list written over a part of another, and two in a row.
 -- Assumes nothing.
 use mathlib.Core.Path.{_≡_, sym, ap, ap₂, _∙_}
-use mathlib.Core.List.{List, [], _++_, append-assoc, append-nil}
-use Prim.Native.Nat.{ℕ, _+_, _≤_}
+use mathlib.Core.List.{List, [], _∷_, _++_, append-assoc, append-nil}
+use Prim.Native.Nat.{ℕ, _+_, _≤_, _<_}
 use native.Mathlib.Nat.{add-zero, add-assoc}
 use native.Mathlib.Omega.{arith}
-use lib.ListN.{length, take, drop, length-append, length-drop, take-append-drop}
-use lib.Seq.{length-take-le, take-length, take-at, drop-at, drop-append-add, drop-drop, paste}
+use lib.ListN.{length, set, take, drop, length-append, length-drop, take-append-drop}
+use lib.Seq.{length-take-le, take-length, take-at, drop-at, drop-append-add, drop-drop, paste, paste-zero, paste-suc}
 use Rattle.laws.specs.Over.{write}
 
 pub paste-write : (l : List ℕ) (at : ℕ) (s : List ℕ) → paste l at s (length s) ≡ write l at s
 unfolding write
 paste-write l at s = ap (λ (x : List ℕ). take at l ++ x ++ drop (at + length s) l) (take-length s)
+
+-- one byte
+pub set-write : (l : List ℕ) (at v : ℕ) → at < length l → set l at v ≡ write l at (v ∷ [])
+set-write l at v h =
+    let s : List ℕ = v ∷ [] in
+    ap₂ (λ (x : List ℕ) (n : ℕ). set x n v) (paste-zero l at s) (sym (add-zero at)) ∙ paste-suc l at s 0 0 (omega arith) (omega arith) ∙ paste-write l at s
 
 pub write-nil : (l : List ℕ) (at : ℕ) → write l at [] ≡ l
 unfolding write
@@ -39,6 +45,13 @@ write-write l at s k t e h =
     ∙ ap (λ (n : ℕ). drop n l) (add-assoc at (length s) (length t)) in
     ap₂ (λ (x y : List ℕ). x ++ t ++ y) (take-at p r k f) d
     ∙ ap₂ (λ (x : List ℕ) (n : ℕ). x ++ drop (at + n) l) (append-assoc (take at l) s t) (sym (length-append s t))
+
+-- two bytes, one after the other
+pub set-two : (l : List ℕ) (at v w : ℕ) → at + 1 < length l → set (set l at v) (at + 1) w ≡ write l at (v ∷ w ∷ [])
+set-two l at v w h =
+    ap (λ (x : List ℕ). set x (at + 1) w) (set-write l at v (omega arith))
+    ∙ set-write (write l at (v ∷ [])) (at + 1) w (omega (arith, length-write l at (v ∷ []) (omega arith)))
+    ∙ write-write l at (v ∷ []) (at + 1) (w ∷ []) (omega arith) (omega arith)
 
 -- as much again, over it
 pub write-over : (o s t : List ℕ) → length s ≡ length t → write (write o 0 s) 0 t ≡ write o 0 t

@@ -54,8 +54,7 @@ pub(crate) fn put_body(
     slices::copy(out, 0, &head);
     let block = w.block;
     let at = put_block(out, block, bytes);
-    let code = [w.code];
-    slices::copy(out, at, &code);
+    out[at] = w.code;
     slices::copy(out, at + CODE_LEN, data);
     at + CODE_LEN + data.len()
 }
@@ -84,11 +83,12 @@ pub(crate) fn put_tail(out: &mut [u8], at: usize, crc: bool) -> usize
 {
     if crc {
         let two = packet_sums::crc16_le(&out[..at]);
-        slices::copy(out, at, &two);
+        out[at] = two[0];
+        out[at + 1] = two[1];
         at + CRC_LEN
     } else {
-        let one = [packet_sums::checksum8(&out[..at])];
-        slices::copy(out, at, &one);
+        let one = packet_sums::checksum8(&out[..at]);
+        out[at] = one;
         at + CHECKSUM_LEN
     }
 }

@@ -5,9 +5,9 @@ use mathlib.Core.List.{List, [], _∷_, _++_}
 use Prim.Native.Nat.{ℕ, _+_}
 use borrow.Author.Needs.{needs}
 use native.Mathlib.Omega.{arith}
-use lib.ListN.{getD}
+use lib.ListN.{getD, length-set}
 use Rattle.laws.specs.Over.{write}
-use Rattle.laws.proofs.Overwrite.{write-four}
+use Rattle.laws.proofs.Overwrite.{set-write, write-four}
 use Rattle.slices.specs.Number.{lowFirst}
 use Rattle.slices.proofs.CopyLaws.{copied-all}
 use Rattle.packet_head.specs.Numbers.{SOM}
@@ -15,15 +15,38 @@ use Rattle.packet_build.specs.Build.{blockBytes, scbGiven, bodyBytes}
 use Rattle.packet_build.proofs.put.put_body.Statement.{statement}
 use Rattle.packet_build.proofs.put.put_body.Tie as tie
 
+-- ---- where the code stood
+
+abbrev start : tie.After-bytes-of-u16 → tie.Start
+start c = c .before .before .before .before
+
+abbrev at-len : tie.After-as-byte → tie.After-bytes-of-u16
+at-len c = c .before
+
+abbrev at-address : tie.After-copy → tie.After-as-byte
+at-address c = c .before .before .before
+
+abbrev at-head : tie.After-put-block → tie.After-copy
+at-head c = c .before .before .before .before
+
+abbrev at-block : tie.After-slice-known4 → tie.After-put-block
+at-block c = c .before .before .before .before .before .before
+
+same-length : tie.Need-same-length
+same-length c =
+    let blocked = at-block c in
+    let k = blocked .put-block in
+    let s = start (at-len (at-address (at-head blocked))) in
+    omega (arith, length-set (k .last .0) (k .result) (s .args .w .code))
+
 returns : tie.Need-returns
 unfolding bodyBytes
 returns c =
-    let coded = c .before .before .before .before .before .before in
-    let blocked = coded .before .before .before .before .before in
-    let headed = blocked .before .before .before .before in
-    let made = headed .before .before .before in
-    let parted = made .before in
-    let s = parted .before .before .before .before in
+    let blocked = at-block c in
+    let headed = at-head blocked in
+    let made = at-address headed in
+    let parted = at-len made in
+    let s = start parted in
     let a = s .args in
     let o = a .out .now in
     let b = blockBytes (scbGiven (a .w .block) (a .bytes .now)) in
@@ -31,8 +54,8 @@ returns c =
     let m = ap (λ (x : List ℕ). write o 0 (SOM ∷ made .as-byte .result ∷ getD x 0 0 ∷ getD x 1 0 ∷ a .ctrl ∷ [])) (parted .bytes-of-u16 .ensures) in
     let h = copied-all o 0 _ (headed .copy .ensures .1) (omega arith) ∙ m ∙ ap₂ (λ (x y : ℕ). write o 0 (SOM ∷ x ∷ lowFirst 2 (a .total) ++ (y ∷ []))) (made .as-byte .ensures) (s .pre .0) in
     let b₁ = k .ensures .1 ∙ ap (λ (x : List ℕ). write x 5 b) h in
-    let c₁ = copied-all _ (k .result) (a .w .code ∷ []) (coded .copy2 .ensures .1) (omega arith) ∙ ap (λ (x : List ℕ). write x (k .result) (a .w .code ∷ [])) b₁ in
-    let d₁ = copied-all _ (k .result + 1) (a .«data» .now) (c .before .before .copy3 .ensures .1) (omega arith) ∙ ap (λ (x : List ℕ). write x (k .result + 1) (a .«data» .now)) c₁ in
+    let c₁ = set-write _ (k .result) (a .w .code) (omega arith) ∙ ap (λ (x : List ℕ). write x (k .result) (a .w .code ∷ [])) b₁ in
+    let d₁ = copied-all _ (k .result + 1) (a .«data» .now) (c .before .before .copy2 .ensures .1) (omega (arith, length-set (k .last .0) (k .result) (a .w .code))) ∙ ap (λ (x : List ℕ). write x (k .result + 1) (a .«data» .now)) c₁ in
     (omega arith, d₁ ∙ write-four o _ b _ (a .«data» .now) (k .result) _ refl (k .ensures .0) refl (omega arith))
 
 pub put-body-spec : {M : Type 1} → statement M
@@ -48,10 +71,9 @@ put-body-spec =
     (λ c κs. search needs)
     (λ c κs. search needs)
     (λ c. search needs)
-    (λ c κs. search needs)
     (λ c. search needs)
     (λ c κs. search needs)
     (λ c. search needs)
     (λ c. search needs)
-    (λ c. search needs)
+    same-length
     returns)

@@ -1,14 +1,15 @@
--- The trailer is taken over what stands before it, then copied behind that.
+-- The trailer is taken over what stands before it, then laid behind that.
 -- Assumes nothing.
 use mathlib.Core.Path.{sym, ap, _∙_}
 use mathlib.Core.List.{[], _∷_}
 use Prim.Native.Nat.{ℕ}
 use borrow.Author.Needs.{needs}
 use native.Mathlib.Omega.{arith}
-use lib.ListN.{length}
+use lib.ListN.{length, length-set}
 use lib.Seq.{length-take-le}
 use Rattle.laws.specs.Over.{write}
-use Rattle.slices.proofs.CopyLaws.{copied-all}
+use Rattle.laws.proofs.Overwrite.{set-write, set-two}
+use Rattle.laws.proofs.Listed.{all-listed}
 use Rattle.packet_build.proofs.put.put_tail.Statement.{statement}
 use Rattle.packet_build.proofs.put.put_tail.Tie as tie
 
@@ -18,28 +19,36 @@ slice-aggregate-crc16-le c = sym (length-take-le _ _ (omega arith))
 slice-aggregate-checksum8 : tie.Need-slice-aggregate-checksum8
 slice-aggregate-checksum8 c = sym (length-take-le _ _ (omega arith))
 
+slice-write-out : tie.Need-slice-write-out
+slice-write-out c = let r = rw (c .before .before .if1 .taken) at (c .before .before .before .before .pre) in omega (arith, r)
+
+slice-write-out-2 : tie.Need-slice-write-out-2
+slice-write-out-2 c = let r = rw (c .before .before .if1 .taken) at (c .before .before .before .before .pre) in rw (length-set) (omega (arith, r))
+
+slice-write-out-3 : tie.Need-slice-write-out-3
+slice-write-out-3 c = let r = rw (c .before .before .if1 .left) at (c .before .before .before .before .pre) in omega (arith, r)
+
 returns : tie.Need-returns
 returns c =
-    let made = c .before .before .before .before .before in
-    let s = made .before .before .before .before in
+    let s = c .before .before .before .before in
     let a = s .args in
-    let e = made .crc16-le .ensures in
-    let r = rw (made .before .before .if1 .taken) at (s .pre) in
-    rw (made .before .before .if1 .taken) (
+    let o = a .out .now in
+    let e = c .crc16-le .ensures in
+    let r = rw (c .before .before .if1 .taken) at (s .pre) in
+    rw (c .before .before .if1 .taken) (
       omega arith,
-      copied-all (a .out .now) (a .at) (made .crc16-le .result) (c .before .before .copy .ensures .1) (omega (arith, ap length e)) ∙ ap (write (a .out .now) (a .at)) e,
+      set-two o (a .at) _ _ (omega (arith, r)) ∙ ap (write o (a .at)) (all-listed (c .crc16-le .result) 2 (ap length e) ∙ e),
     )
 
 returns-2 : tie.Need-returns-2
 returns-2 c =
-    let made = c .before .before .before .before .before in
-    let s = made .before .before .before .before in
+    let s = c .before .before .before .before in
     let a = s .args in
-    let r = rw (made .before .before .if1 .left) at (s .pre) in
-    rw (made .before .before .if1 .left) (
+    let o = a .out .now in
+    let r = rw (c .before .before .if1 .left) at (s .pre) in
+    rw (c .before .before .if1 .left) (
       omega arith,
-      copied-all (a .out .now) (a .at) (made .checksum8 .result ∷ []) (c .before .before .copy2 .ensures .1) (omega arith)
-          ∙ ap (λ (v : ℕ). write (a .out .now) (a .at) (v ∷ [])) (made .checksum8 .ensures),
+      set-write o (a .at) _ (omega (arith, r)) ∙ ap (λ (v : ℕ). write o (a .at) (v ∷ [])) (c .checksum8 .ensures),
     )
 
 pub put-tail-spec : {M : Type 1} → statement M
@@ -50,13 +59,15 @@ put-tail-spec =
     slice-aggregate-crc16-le
     (λ c κs. search needs)
     (λ c. search needs)
-    (λ c κs. search needs)
+    slice-write-out
+    (λ c. search needs)
+    (λ c. search needs)
+    slice-write-out-2
     (λ c. search needs)
     (λ c. search needs)
     slice-aggregate-checksum8
     (λ c κs. search needs)
-    (λ c. search needs)
-    (λ c κs. search needs)
+    slice-write-out-3
     (λ c. search needs)
     (λ c. search needs)
     returns
