@@ -5,7 +5,7 @@ use mathlib.Core.List.{List, [], _∷_, _++_, append-assoc, append-nil}
 use Prim.Native.Nat.{ℕ, _+_, _≤_, _<_}
 use native.Mathlib.Nat.{add-zero, add-assoc}
 use native.Mathlib.Omega.{arith}
-use lib.ListN.{length, set, take, drop, length-append, length-drop, take-append-drop}
+use lib.ListN.{length, set, take, drop, length-append, length-drop, take-append-drop, drop-of-length-le}
 use lib.Seq.{length-take-le, take-length, take-at, drop-at, drop-append-add, drop-drop, paste, paste-zero, paste-suc}
 use Rattle.laws.specs.Over.{write}
 
@@ -45,6 +45,18 @@ write-write l at s k t e h =
     ∙ ap (λ (n : ℕ). drop n l) (add-assoc at (length s) (length t)) in
     ap₂ (λ (x y : List ℕ). x ++ t ++ y) (take-at p r k f) d
     ∙ ap₂ (λ (x : List ℕ) (n : ℕ). x ++ drop (at + n) l) (append-assoc (take at l) s t) (sym (length-append s t))
+
+-- all of it
+pub write-whole : (l s : List ℕ) → length l ≡ length s → write l 0 s ≡ s
+unfolding write
+write-whole l s e = ap (λ (r : List ℕ). s ++ r) (drop-of-length-le l {i = 0 + length s} (omega arith)) ∙ append-nil s
+
+-- the part of n bytes from `at` on was lent and came back as s
+pub part-write : (l : List ℕ) (at n : ℕ) (s : List ℕ) → length s ≡ n → take at l ++ (s ++ drop n (drop at l)) ≡ write l at s
+unfolding write
+part-write l at n s e =
+    sym (append-assoc (take at l) s (drop n (drop at l)))
+    ∙ ap (λ (r : List ℕ). take at l ++ s ++ r) (drop-drop n at l ∙ ap (λ (m : ℕ). drop (at + m) l) (sym e))
 
 -- two bytes, one after the other
 pub set-two : (l : List ℕ) (at v w : ℕ) → at + 1 < length l → set (set l at v) (at + 1) w ≡ write l at (v ∷ w ∷ [])

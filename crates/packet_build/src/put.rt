@@ -55,8 +55,10 @@ pub(crate) fn put_body(
     let block = w.block;
     let at = put_block(out, block, bytes);
     out[at] = w.code;
-    slices::copy(out, at + CODE_LEN, data);
-    at + CODE_LEN + data.len()
+    // to a part of just its length, so that the test of the room costs nothing
+    let end = at + CODE_LEN + data.len();
+    slices::copy(&mut out[at + CODE_LEN..end], 0, data);
+    end
 }
 
 // The MAC, if there is one; the place after it.

@@ -32,5 +32,6 @@ pub(crate) fn put(out: &mut [u8], at: usize, b: [u8; 16])
     requires { ⌜ at + 16 ≤ length (now out) ⌝ }
     ensures { λ _. ⌜ now (out .exit) ≡ write (now (out .entry)) at b ⌝ }
 {
-    slices::copy(out, at, &b);
+    let end = at + 16;
+    slices::copy(&mut out[at..end], 0, &b);
 }

@@ -19,7 +19,7 @@ use Rattle.secure_session.specs.Session.{isSecure}
 use Rattle.secure_session.specs.declared.session.Session.{Session}
 use Rattle.secure_session.proofs.SecureLaws.{secure-seal-data}
 use Rattle.secure_seal.specs.Seal.{dataLenFor, dataOf}
-use Rattle.secure_seal.proofs.Places.{write-whole}
+use Rattle.laws.proofs.Overwrite.{write-whole}
 use Rattle.secure_seal.proofs.SealLaws.{plain-len, hidden-data, data-length}
 
 encrypt-fits : (k v x o : List ℕ) → hiddenLen x ≤ length o

@@ -11,7 +11,7 @@ use borrow.Rule.Slice.PartMut.{putMid}
 use Rattle.laws.specs.Answer.{Answer.given}
 use Rattle.laws.specs.Bytes.{compl}
 use Rattle.laws.specs.Over.{write}
-use Rattle.laws.proofs.Overwrite.{length-write, write-write, take-write}
+use Rattle.laws.proofs.Overwrite.{length-write, write-write, take-write, part-write}
 use Rattle.laws.proofs.Listed.{front-listed}
 use Rattle.slices.specs.Copy.{copyOf}
 use Rattle.slices.specs.Number.{lowFirst}
@@ -29,7 +29,6 @@ use Rattle.secure_session.specs.Chain.{sendFrom, sent}
 use Rattle.secure_session.specs.declared.session.Session.{Session}
 use Rattle.secure_seal.specs.Seal.{typeFor, dataLenFor, dataOf, Asked, totalOf, sealedControl, partsWith, bodyWith, sealedFrame}
 use Rattle.secure_seal.specs.Parts.{Put}
-use Rattle.secure_seal.proofs.Places.{part-write}
 use Rattle.secure_seal.proofs.SealLaws.{sealedData}
 
 pub head-bytes : (a b total v sqn k t code : ℕ) (l : List ℕ) → a ≡ b → l ≡ lowFirst 2 total → v ≡ sqn → k ≡ t

@@ -3,7 +3,6 @@ pub mod SealCases
 pub mod SealCalls
 pub mod Settled
 pub mod Worked
-mod Places
 mod Arrays
 mod DataWritten
 mod FrameWritten

@@ -7,7 +7,7 @@ use mir.Syntax.{w8}
 use Rattle.laws.specs.Blocks.{Block}
 use Rattle.slices.proofs.CopyLaws.{copied-all}
 use Rattle.secure_session.proofs.SessionLaws.{ChainBlocks, send-block}
-use Rattle.secure_seal.proofs.Places.{write-whole}
+use Rattle.laws.proofs.Overwrite.{write-whole}
 use Rattle.secure_seal.proofs.DataWritten.{hidden-written, plain-fits, plain-written}
 use borrow.Author.Needs.{needs, length-unmapped, elem-fits-field}
 use Rattle.secure_seal.proofs.frame.put_data.Statement.{statement}
