@@ -82,8 +82,8 @@ module _ (s : Session) (q : Asked) (o o₁ y : List ℕ) (t total : ℕ) (et : t
       (es : s₂ ≡ sent s (sessionMac s v (take (total - 6) (putMid 8 (total - 6 - 8) o₁ y)) .full))
       (e₃ : o₃ ≡ write (write (putMid 8 (total - 6 - 8) o₁ y) (total - 6) (take 4 f)) (total - 6 + 4)
       (tailBytes true (take (total - 6 + 4) (write (putMid 8 (total - 6 - 8) o₁ y) (total - 6) (take 4 f))))) where
-    signed : write (putMid 8 (total - 6 - 8) o₁ y) (total - 6) (take 4 f) ≡ write o 0 (bodyWith q (sealedData k v q) ++ take 4 f)
-    signed =
+    mac-laid : write (putMid 8 (total - 6 - 8) o₁ y) (total - 6) (take 4 f) ≡ write o 0 (bodyWith q (sealedData k v q) ++ take 4 f)
+    mac-laid =
         ap (λ (x : List ℕ). write x (total - 6) (take 4 f)) body-written
         ∙ write-write o 0 (bodyWith q (sealedData k v q)) (total - 6) (take 4 f) (omega (arith, length-body)) (omega (arith, length-body, length-take-le 4 f (omega arith)))
 
@@ -92,7 +92,7 @@ module _ (s : Session) (q : Asked) (o o₁ y : List ℕ) (t total : ℕ) (et : t
     ended =
         let b = bodyWith q (sealedData k v q) ++ take 4 f in
         let l : length b ≡ total - 6 + 4 = length-append (bodyWith q (sealedData k v q)) (take 4 f) ∙ omega (arith, length-body, length-take-le 4 f (omega arith)) in
-        e₃ ∙ ap (λ (x : List ℕ). write x (total - 6 + 4) (tailBytes true (take (total - 6 + 4) x))) signed
+        e₃ ∙ ap (λ (x : List ℕ). write x (total - 6 + 4) (tailBytes true (take (total - 6 + 4) x))) mac-laid
         ∙ ap (λ (x : List ℕ). write (write o 0 b) (total - 6 + 4) (tailBytes true x)) (take-write o (total - 6 + 4) b (sym l))
         ∙ write-write o 0 b (total - 6 + 4) (tailBytes true b) (omega arith) (omega arith)
 

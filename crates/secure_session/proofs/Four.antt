@@ -10,14 +10,15 @@ use lib.Dec.{eqb}
 use lib.ListN.{length, getD, take}
 use Rattle.laws.specs.Bytes.{Bytes, eql}
 use Rattle.laws.proofs.ByteLists.{eql-refl, eql-true}
+use Rattle.slices.specs.Number.{lowNumber}
 use Rattle.laws.proofs.Listed.{front-listed, all-listed}
-
--- the first four entries of a list as a number, the first lowest
-abbrev pub fourOf : List ℕ → ℕ
-fourOf l = getD l 0 0 + 256 * (getD l 1 0 + 256 * (getD l 2 0 + 256 * getD l 3 0))
 
 abbrev listed : List ℕ → List ℕ
 listed l = getD l 0 0 ∷ getD l 1 0 ∷ getD l 2 0 ∷ getD l 3 0 ∷ []
+
+-- the first four entries of a list as a number, the first lowest
+abbrev pub fourOf : List ℕ → ℕ
+fourOf l = lowNumber (listed l)
 
 lowest : (a x b y : ℕ) → a < 256 → b < 256 → a + 256 * x ≡ b + 256 * y → (a ≡ b) × (x ≡ y)
 lowest a x b y ha hb h = (omega arith, omega arith)
@@ -27,7 +28,8 @@ same-entries f w hf hw h =
     let p = lowest _ _ _ _ (hf 0) (hw 0) h in
     let q = lowest _ _ _ _ (hf 1) (hw 1) (p .1) in
     let r = lowest _ _ _ _ (hf 2) (hw 2) (q .1) in
-    λ i. p .0 i ∷ q .0 i ∷ r .0 i ∷ r .1 i ∷ []
+    let t = lowest _ 0 _ 0 (hf 3) (hw 3) (r .1) in
+    λ i. p .0 i ∷ q .0 i ∷ r .0 i ∷ t .0 i ∷ []
 
 either-way : (x y : Bool) → (x ≡ true → y ≡ true) → (y ≡ true → x ≡ true) → x ≡ y
 either-way true y f g = sym (f refl)

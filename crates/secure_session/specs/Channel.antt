@@ -7,6 +7,7 @@ use lib.ListN.{take}
 use Rattle.laws.specs.Answer.{Answer, Answer.given, Answer.refused}
 use Rattle.laws.specs.Bytes.{compl, eql}
 use Rattle.refusal.specs.Reading.{outcomeAnswer}
+use Rattle.packet_head.specs.Numbers.{«MAC_LEN»}
 use Rattle.secure_keys.specs.declared.crypto.SessionKeys.{SessionKeys}
 use Rattle.secure_cipher.specs.Mac.{Mac, macOf}
 use Rattle.secure_cipher.specs.Cbc.{Done, cipherStop, encryptOf, decryptOf}
@@ -30,7 +31,7 @@ unfoldable pub verifyOf : Session → List ℕ → List ℕ → Step (Unit {0})
 verifyOf s l wire =
     let m = sessionMac s (recvFrom s) l .full in
     cond (isSecure (s .state))
-    (cond (eql (take 4 m) wire) (record { answer = given tt; session = received s m }) (record { answer = refused 15 []; session = s }))
+    (cond (eql (take «MAC_LEN» m) wire) (record { answer = given tt; session = received s m }) (record { answer = refused 15 []; session = s }))
     (wrongState s)
 
 -- the derived keys, and the chain value that a MAC sent next starts from

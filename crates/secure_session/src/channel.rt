@@ -1,10 +1,11 @@
 // What a session that is Secure does to bytes, at either end.
 ghost use mathlib.Core.Path.{_≡_};
-ghost use Prim.Native.Nat.{_+_, _*_};
+ghost use mathlib.Core.List.{[], _∷_};
 ghost use lib.ListN.{take};
 ghost use Rattle.laws.specs.Bytes.{eql};
+ghost use Rattle.slices.specs.Number.{lowNumber};
+ghost use Rattle.packet_head.specs.Numbers.{«MAC_LEN»};
 ghost use Rattle.secure_cipher.specs.Cbc.{cipherTold};
-ghost use Rattle.secure_session.specs.Chain.{sendFrom, recvFrom, sent, received};
 ghost use Rattle.secure_session.specs.Session.{isSecure};
 ghost use Rattle.secure_session.specs.Handshake.{stepped, steppedBlock, blockAnswer, blockBeside};
 ghost use Rattle.secure_session.specs.Channel.{sessionMac, makeMac, verifyOf, keysOf, lastOtherMacOf, sealDataOf, openDataOf, keysAnswer, keysBeside};
@@ -14,6 +15,7 @@ use super::session::KeysAnswer;
 use super::session::Session;
 use super::session::Stepped;
 use super::session::SteppedBlock;
+use packet_head::MAC_LEN;
 use refusal::LengthAnswer;
 use refusal::Outcome;
 use refusal::Refusal;
@@ -22,15 +24,15 @@ use secure_cipher::Ciphered;
 
 // Four bytes as one number, the first lowest.
 fn number(a: u8, b: u8, c: u8, d: u8) -> u32
-    ensures { λ r. ⌜ r ≡ a + 256 * (b + 256 * (c + 256 * d)) ⌝ }
+    ensures { λ r. ⌜ r ≡ lowNumber (a ∷ b ∷ c ∷ d ∷ []) ⌝ }
 {
     (a as u32) + 256 * ((b as u32) + 256 * ((c as u32) + 256 * (d as u32)))
 }
 
 // Whether a full MAC begins with four bytes: one comparison of two numbers, which no byte ends early. The MAC comes with the record
 // that holds it: a copy would be cut up for the comparison, and the chain value with it.
-fn begins_with(m: ChainMac, four: [u8; 4]) -> bool
-    ensures { λ r. ⌜ r ≡ eql (take 4 (m .full)) four ⌝ }
+fn begins_with(m: ChainMac, four: [u8; MAC_LEN]) -> bool
+    ensures { λ r. ⌜ r ≡ eql (take «MAC_LEN» (m .full)) four ⌝ }
 {
     let is = number(m.full[0], m.full[1], m.full[2], m.full[3]);
     let came = number(four[0], four[1], four[2], four[3]);
@@ -81,7 +83,7 @@ impl Session {
     }
 
     // The four bytes of MAC that came with bytes.
-    pub fn verify(self, bytes: &[u8], wire_mac: [u8; 4]) -> Stepped
+    pub fn verify(self, bytes: &[u8], wire_mac: [u8; MAC_LEN]) -> Stepped
         ensures { λ r. ⌜ stepped r ≡ verifyOf self (now (bytes .entry)) «wire_mac» ⌝ }
     {
         if !self.is_secure() {

@@ -5,6 +5,7 @@ ghost use mathlib.Core.List.{List};
 ghost use Prim.Native.Nat.{ℕ, _+_, _≤_};
 ghost use lib.ListN.{length, take, drop};
 ghost use Rattle.laws.specs.Answer.{Answer.given};
+ghost use Rattle.packet_head.specs.Numbers.{«MAC_LEN»};
 ghost use Rattle.packet_parse.specs.Frame.{parseOf, fields};
 ghost use Rattle.secure_cipher.specs.Cbc.{wiped, cipherTold};
 ghost use Rattle.secure_session.specs.Chain.{recvFrom};
@@ -13,6 +14,7 @@ ghost use Rattle.secure_session.specs.Handshake.{stepped};
 ghost use Rattle.secure_session.specs.Channel.{verifyOf, openDataOf};
 ghost use Rattle.secure_unseal.specs.Unseal.{check, openData, unsealPlain, unsealHidden, unsealParsed, unsealedOn, unsealOf, unsealTold};
 ghost use Rattle.secure_unseal.specs.Parts.{stopped};
+use packet_head::MAC_LEN;
 use packet_parse::BlockPart;
 use packet_parse::Parsed;
 use packet_parse::ParsedPacket;
@@ -41,17 +43,17 @@ pub struct Unsealed {
 }
 
 // The four bytes of the frame at `at`.
-fn four_at(frame: &[u8], at: usize) -> [u8; 4]
-    requires { ⌜ at + 4 ≤ length (now frame) ⌝ }
-    ensures { λ r. ⌜ r ≡ take 4 (drop at (now (frame .entry))) ⌝ }
+fn four_at(frame: &[u8], at: usize) -> [u8; MAC_LEN]
+    requires { ⌜ at + «MAC_LEN» ≤ length (now frame) ⌝ }
+    ensures { λ r. ⌜ r ≡ take «MAC_LEN» (drop at (now (frame .entry))) ⌝ }
 {
     [frame[at], frame[at + 1], frame[at + 2], frame[at + 3]]
 }
 
 // The MAC over the frame's bytes before `mac_at`, against the four bytes there.
 fn check(session: Session, frame: &[u8], mac_at: usize) -> Stepped
-    requires { ⌜ «mac_at» + 4 ≤ length (now frame) ⌝ }
-    ensures { λ r. ⌜ stepped r ≡ verifyOf session (take «mac_at» (now (frame .entry))) (take 4 (drop «mac_at» (now (frame .entry)))) ⌝ }
+    requires { ⌜ «mac_at» + «MAC_LEN» ≤ length (now frame) ⌝ }
+    ensures { λ r. ⌜ stepped r ≡ verifyOf session (take «mac_at» (now (frame .entry))) (take «MAC_LEN» (drop «mac_at» (now (frame .entry)))) ⌝ }
 {
     let four = four_at(frame, mac_at);
     session.verify(&frame[..mac_at], four)
@@ -86,7 +88,7 @@ fn wipe(work: &mut [u8], n: usize)
 
 // Types 15 and 16: the payload is shown where it stands in the frame.
 fn unseal_plain(session: Session, frame: &[u8], p: ParsedPacket, mac_at: usize) -> Unsealed
-    requires { ⌜ (isSecure (session .state) ≡ true) × («mac_at» + 4 ≤ length (now frame)) ⌝ }
+    requires { ⌜ (isSecure (session .state) ≡ true) × («mac_at» + «MAC_LEN» ≤ length (now frame)) ⌝ }
     ensures { λ r. ⌜ ((w : List ℕ) → unsealTold r w ≡ unsealedOn session (unsealPlain (check (session .keys) (recvFrom session) (now (frame .entry)) «mac_at») (fields p) w)) ⌝ }
 {
     let calls = secure_cipher::mac_calls(mac_at);
@@ -115,7 +117,7 @@ fn unseal_hidden(
     mac_at: usize,
     work: &mut [u8],
 ) -> Unsealed
-    requires { ⌜ (isSecure (session .state) ≡ true) × («mac_at» + 4 ≤ length (now frame)) × (p .«data_start» + p .«data_len» ≤ length (now frame)) ⌝ }
+    requires { ⌜ (isSecure (session .state) ≡ true) × («mac_at» + «MAC_LEN» ≤ length (now frame)) × (p .«data_start» + p .«data_len» ≤ length (now frame)) ⌝ }
     ensures { λ r. ⌜ unsealTold r (now (work .exit)) ≡ unsealedOn session (unsealHidden (check (session .keys) (recvFrom session) (now (frame .entry)) «mac_at») (openData (session .keys) (recvFrom session) (now (frame .entry)) (fields p)) (fields p) (now (work .entry))) ⌝ }
 {
     let at = p.data_start;
