@@ -11,6 +11,7 @@ use lib.ListN.{length, replicate, getD, length-replicate}
 use Rattle.laws.specs.Bytes.{Exactly, zeros}
 use Rattle.laws.proofs.ByteLists.{bytes-replicate}
 use Rattle.secure_cipher.proofs.PadLaws.{length-padData}
+use Rattle.secure_session.specs.Chain.{chainIn}
 use Rattle.secure_session.specs.Session.{fresh}
 use Rattle.secure_session.specs.Apart.{Apart}
 use Rattle.secure_session.specs.declared.session.End.{End}
@@ -99,7 +100,7 @@ used e k y = record {
   «rnd_b» = replicate 8 y;
   cuid = replicate 8 y;
   keys = record { «s_enc» = replicate 16 y; «s_mac1» = replicate 16 y; «s_mac2» = replicate 16 y };
-  chain = record { value = replicate 16 y };
+  chain = chainIn (replicate 16 y);
 }
 
 -- between these ends; a and b are the random numbers' bytes, x stands in the encrypted payloads

@@ -1,7 +1,7 @@
 -- A session that goes out to C comes back as it was, and one that was read goes out as it came.
 -- Assumes nothing.
 use Prim.Native.Nat.{ℕ}
-use mathlib.Core.Path.{_≡_, refl, sym, ap₂}
+use mathlib.Core.Path.{_≡_, sym, ap}
 use lib.Dec.{eqb}
 use borrow.Author.Tests.{eqb-true}
 use Rattle.laws.specs.Answer.{Answer.given, andThen, choose}
@@ -9,7 +9,10 @@ use Rattle.laws.proofs.Answers.{holds-given, holds-then, holds-choose}
 use Rattle.secure_session.specs.declared.session.End.{End}
 use Rattle.secure_session.specs.declared.session.State.{State}
 use Rattle.secure_session.specs.declared.session.Session.{Session}
+use Rattle.secure_session.specs.Chain.{chainIn, chainOut}
 use Rattle.secure_session.specs.Session.{endNumber, stateNumber}
+use Rattle.secure_session.specs.declared.chain.Chain.{Chain}
+use Rattle.secure_session.proofs.SessionLaws.{chain-out-in, chain-in-out}
 use Rattle.crossing.specs.Sessions.{endArg, stateArg, sessionWith, sessionArg, cSession}
 use Rattle.crossing.specs.declared.session.CSession.{CSession}
 
@@ -18,15 +21,22 @@ pub out-and-in : (s : Session) → sessionArg (cSession s) ≡ given s
 unfolding sessionArg endArg stateArg choose andThen
 out-and-in s = go (s .end) (s .state)
   where
-    go : (e : End) (t : State) → let x = sessionWith (cSession s) e t in sessionArg (cSession x) ≡ given x
-    go End.Controller State.Disconnected = refl
-    go End.Controller State.Challenged = refl
-    go End.Controller State.Cryptogrammed = refl
-    go End.Controller State.Secure = refl
-    go End.Reader State.Disconnected = refl
-    go End.Reader State.Challenged = refl
-    go End.Reader State.Cryptogrammed = refl
-    go End.Reader State.Secure = refl
+    -- the session at any end and in any state, its chain to C and back
+    at : End → State → Chain → Session
+    at e t c = record { end = e; state = t; scbk = s .scbk; «rnd_a» = s .«rnd_a»; «rnd_b» = s .«rnd_b»; cuid = s .cuid; keys = s .keys; chain = c }
+
+    back : (e : End) (t : State) → given (at e t (chainIn (chainOut (s .chain)))) ≡ given (at e t (s .chain))
+    back e t = ap (λ (c : Chain). given (at e t c)) (chain-out-in (s .chain))
+
+    go : (e : End) (t : State) → sessionArg (cSession (at e t (s .chain))) ≡ given (at e t (s .chain))
+    go End.Controller State.Disconnected = back _ _
+    go End.Controller State.Challenged = back _ _
+    go End.Controller State.Cryptogrammed = back _ _
+    go End.Controller State.Secure = back _ _
+    go End.Reader State.Disconnected = back _ _
+    go End.Reader State.Challenged = back _ _
+    go End.Reader State.Cryptogrammed = back _ _
+    go End.Reader State.Secure = back _ _
 
 end-back : (n : ℕ) (e : End) → endArg n ≡ given e → endNumber e ≡ n
 unfolding endArg
@@ -54,5 +64,7 @@ in-and-out c s =
     holds-given P (sessionArg c) s
     (holds-then P (endArg (c .end)) _ (λ e he.
     holds-then P (stateArg (c .state)) _ (λ t ht.
-    ap₂ (λ (a b : ℕ). record { end = a; state = b; scbk = c .scbk; «rnd_a» = c .«rnd_a»; «rnd_b» = c .«rnd_b»; cuid = c .cuid; keys = c .keys; chain = c .chain })
-    (end-back (c .end) e he) (state-back (c .state) t ht))))
+    let p = end-back (c .end) e he in
+    let q = state-back (c .state) t ht in
+    let r = chain-in-out (c .chain) in
+    λ i. record { end = p i; state = q i; scbk = c .scbk; «rnd_a» = c .«rnd_a»; «rnd_b» = c .«rnd_b»; cuid = c .cuid; keys = c .keys; chain = r i })))

@@ -16,6 +16,7 @@ use Rattle.secure_session.specs.declared.door.SessionFields.{SessionFields}
 use Rattle.secure_session.specs.declared.session.SteppedBlock.{SteppedBlock}
 use Rattle.secure_session.specs.declared.session.BlockAnswer.{BlockAnswer}
 use Rattle.secure_session.specs.declared.session.KeysAnswer.{KeysAnswer}
+use Rattle.secure_session.specs.Chain.{chainIn, chainOut}
 use Rattle.secure_session.specs.Session.{endNumber, stateNumber}
 use Rattle.secure_session.specs.Door.{doorOut, doorIn}
 use Rattle.secure_session.specs.Handshake.{Step, blockBeside}
@@ -62,7 +63,7 @@ endsBeside (refused n vs) = (Controller, Disconnected)
 -- all of C's fields a third time, since a session that cannot be read can be wiped too.
 abbrev pub fieldsArg : CSession → End → State → SessionFields
 fieldsArg c e t =
-    record { end = e; state = t; scbk = c .scbk; «rnd_a» = c .«rnd_a»; «rnd_b» = c .«rnd_b»; cuid = c .cuid; keys = keysArg (c .keys); chain = record { value = c .chain } }
+    record { end = e; state = t; scbk = c .scbk; «rnd_a» = c .«rnd_a»; «rnd_b» = c .«rnd_b»; cuid = c .cuid; keys = keysArg (c .keys); chain = chainIn (c .chain) }
 
 abbrev pub sessionWith : CSession → End → State → Session
 sessionWith c e t = doorIn (fieldsArg c e t)
@@ -80,7 +81,7 @@ sessionBeside c (refused n vs) = sessionWith c Controller Disconnected
 
 abbrev pub cFields : SessionFields → CSession
 cFields f =
-    record { end = endNumber (f .end); state = stateNumber (f .state); scbk = f .scbk; «rnd_a» = f .«rnd_a»; «rnd_b» = f .«rnd_b»; cuid = f .cuid; keys = cKeys (f .keys); chain = f .chain .value }
+    record { end = endNumber (f .end); state = stateNumber (f .state); scbk = f .scbk; «rnd_a» = f .«rnd_a»; «rnd_b» = f .«rnd_b»; cuid = f .cuid; keys = cKeys (f .keys); chain = chainOut (f .chain) }
 
 abbrev pub cSession : Session → CSession
 cSession s = cFields (doorOut s)

@@ -122,7 +122,8 @@ fn fields_of(c: CSession, end: End, state: State) -> SessionFields
     let s_enc = k.s_enc;
     let s_mac1 = k.s_mac1;
     let s_mac2 = k.s_mac2;
-    let value = c.chain;
+    let bytes = c.chain;
+    let chain = Chain::from_bytes(bytes);
     SessionFields {
         end,
         state,
@@ -135,7 +136,7 @@ fn fields_of(c: CSession, end: End, state: State) -> SessionFields
             s_mac1,
             s_mac2,
         },
-        chain: Chain { value },
+        chain,
     }
 }
 
@@ -199,7 +200,7 @@ fn fields_c(f: SessionFields) -> CSession
     let cuid = f.cuid;
     let keys = keys_c(f.keys);
     let kept = f.chain;
-    let chain = kept.value;
+    let chain = kept.as_bytes();
     CSession {
         end: end_number(end),
         state: state_number(state),

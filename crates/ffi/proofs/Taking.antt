@@ -4,6 +4,7 @@ use Prim.Native.Nat.{ℕ}
 use mathlib.Core.Path.{_≡_, sym, ap, ap₂, _∙_}
 use mathlib.Core.List.{List}
 use Rattle.laws.specs.Answer.{Answer, Answer.given, Answer.refused}
+use Rattle.laws.specs.Bytes.{zeros}
 use Rattle.laws.proofs.Answers.{then-given, then-refused}
 use Rattle.refusal.specs.declared.Outcome.{Outcome}
 use Rattle.refusal.specs.declared.Refusal.{Refusal}
@@ -15,9 +16,10 @@ use Rattle.secure_session.specs.declared.session.Session.{Session}
 use Rattle.secure_session.specs.declared.session.SteppedBlock.{SteppedBlock}
 use Rattle.secure_session.specs.declared.session.BlockAnswer.{BlockAnswer}
 use Rattle.secure_session.specs.declared.session.KeysAnswer.{KeysAnswer}
-use Rattle.secure_session.specs.Session.{wipedOf, fresh}
+use Rattle.secure_session.specs.Session.{endNumber, noKeys, wipedOf, fresh}
 use Rattle.secure_session.specs.Handshake.{Step, steppedBlock, blockAnswer, blockBeside}
 use Rattle.secure_session.specs.Channel.{keysAnswer, keysBeside}
+use Rattle.secure_session.proofs.SessionLaws.{no-chain-out}
 use Rattle.crossing.specs.Ciphers.{cKeys}
 use Rattle.crossing.specs.Answers.{cYes}
 use Rattle.crossing.specs.Sessions.{sessionArg, cSession, cStepped, cSteppedBlock, cBlockAnswer, cKeysAnswer, taken, toldBlock, toldAnswer, toldKeys}
@@ -108,4 +110,7 @@ module _ (c : CSession) (r : Taken) (h : taken r ≡ sessionArg c) where
 
 pub wiped-read : (c : CSession) (s : Session) → sessionArg c ≡ given s → cWiped c ≡ cSession (wipedOf s)
 unfolding wipedOf fresh
-wiped-read c s e = ap cWiped (sym (in-and-out c s e))
+wiped-read c s e =
+    let z = sym no-chain-out in
+    ap cWiped (sym (in-and-out c s e))
+    ∙ (λ i. record { end = endNumber (s .end); state = 0; scbk = zeros 16; «rnd_a» = zeros 8; «rnd_b» = zeros 8; cuid = zeros 8; keys = cKeys noKeys; chain = z i })

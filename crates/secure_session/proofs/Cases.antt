@@ -40,10 +40,10 @@ pub reset-reader : (s : Session) → s .end ≡ Reader → fresh (s .end) (s .sc
 unfolding reset
 reset-reader s h = rw h
 
-pub with-chain : (s : Session) (m : List ℕ) {n : Session} {c : Chain}
-    → n ≡ withStep s Secure (s .«rnd_a») (s .«rnd_b») (s .cuid) (s .keys) → c ≡ firstChain m → withChain n c ≡ secured s m
+pub with-chain : (s : Session) (m : List ℕ) {n r : Session}
+    → n ≡ withStep s Secure (s .«rnd_a») (s .«rnd_b») (s .cuid) (s .keys) → r ≡ withChain n (firstChain m) → r ≡ secured s m
 unfolding secured
-with-chain s m h g = ap₂ withChain h g
+with-chain s m h g = g ∙ ap (λ (x : Session). withChain x (firstChain m)) h
 
 -- ---- the handshake's calls
 

@@ -6,3 +6,4 @@ pub mod SessionLaws
 pub mod Shaken
 pub mod DoorLaws
 pub mod SecureLaws
+pub mod Owned

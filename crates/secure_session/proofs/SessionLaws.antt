@@ -4,7 +4,8 @@ use mathlib.Core.List.{List}
 use mathlib.Core.Path.{_≡_, refl}
 use Prim.Native.Nat.{ℕ}
 use Rattle.laws.specs.Blocks.{Block}
-use Rattle.secure_session.specs.Chain.{firstChain, sendFrom, recvFrom, sent, received}
+use Rattle.laws.specs.Bytes.{zeros}
+use Rattle.secure_session.specs.Chain.{noChain, firstChain, chainIn, chainOut, sendFrom, recvFrom, sent, received}
 use Rattle.secure_session.specs.Session.{secured}
 use Rattle.secure_session.specs.declared.chain.Chain.{Chain}
 use Rattle.secure_session.specs.declared.session.Session.{Session}
@@ -22,6 +23,19 @@ send-block s h = h
 pub recv-block : (s : Session) → ChainBlocks (s .chain) → Block (recvFrom s)
 unfolding recvFrom
 recv-block s h = h
+
+-- nothing is lost on the way to C and back, nor on the way back; a session with no chain goes out with zeros
+pub chain-out-in : (c : Chain) → chainIn (chainOut c) ≡ c
+unfolding chainIn chainOut
+chain-out-in c = refl
+
+pub chain-in-out : (b : List ℕ) → chainOut (chainIn b) ≡ b
+unfolding chainIn chainOut
+chain-in-out b = refl
+
+pub no-chain-out : chainOut noChain ≡ zeros 16
+unfolding chainOut
+no-chain-out = refl
 
 module _ (s : Session) (m : List ℕ) where
   -- after a MAC was made

@@ -14,6 +14,13 @@ noChain = record { value = zeros 16 }
 unfoldable pub firstChain : List ℕ → Chain
 firstChain m = record { value = m }
 
+-- as C holds it: bytes that come in, and that go out
+unfoldable pub chainIn : List ℕ → Chain
+chainIn b = record { value = b }
+
+unfoldable pub chainOut : Chain → List ℕ
+chainOut c = c .value
+
 abbrev pub withChain : Session → Chain → Session
 withChain s c = record { end = s .end; state = s .state; scbk = s .scbk; «rnd_a» = s .«rnd_a»; «rnd_b» = s .«rnd_b»; cuid = s .cuid; keys = s .keys; chain = c }
 

@@ -188,10 +188,8 @@ impl Session {
         let rnd_b = self.rnd_b;
         let cuid = self.cuid;
         let keys = self.keys;
-        let mut s = self.moved(State::Secure, rnd_a, rnd_b, cuid, keys);
-        let chain = Chain::first(first);
-        s.chain = chain;
-        s
+        let s = self.moved(State::Secure, rnd_a, rnd_b, cuid, keys);
+        s.chained(first)
     }
 
     // The server cryptogram that keys and random numbers give.

@@ -8,7 +8,7 @@ use Rattle.secure_session.proofs.session.Session.secured.Statement.{sta
 returns : tie.Need-returns
 returns c =
     let s = c .before .before .before .before .before .before in
-    with-chain (s .args .self) (s .args .first) (c .before .moved .ensures) (c .first .ensures)
+    with-chain (s .args .self) (s .args .first) (c .before .moved .ensures) (c .chained .ensures)
 
 pub secured-spec : {M : Type 1} → statement M
 secured-spec = tie.close (tie.spec (λ c κs. search needs) (λ c κs. search needs) returns)
