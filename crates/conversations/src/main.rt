@@ -1,7 +1,8 @@
 // Conversations that agree on all that stands open on the line, and differ in keys, random numbers, encrypted contents, buffers, and in
 // what their ends went through before. Every frame goes by `channel::carry` or `channel::transfer`, whose promises are the definitions
 // that the theorem of crate `channel` is over. Each sealed frame is told by its length, its open bytes and its cipher calls, so the
-// listings are the same: what the theorem says, seen to happen.
+// listings are the same: what the theorem says, seen to happen. One frame of each finds no room at its sender, which the theorem leaves
+// out (`SendFits.room`): it is refused, nothing moves, and the theorem is on the conversation without it.
 mod print;
 mod shake;
 
