@@ -9,7 +9,9 @@ use Rattle.aes.proofs.round.key.Tie as tie
 
 returns : tie.Need-returns
 unfolding part
-returns c = rw (add-zero (c .before .before .before .before .before .before .before .before .before .args .at)) (c .pack .ensures)
+returns c =
+    let fourth = c .before .before .before .before in
+    rw (add-zero (fourth .before .before .before .before .before .args .at)) (c .pack .ensures)
 
 pub key-spec : {M : Type 1} → statement M
 key-spec =

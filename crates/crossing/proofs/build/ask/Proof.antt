@@ -9,19 +9,30 @@ use borrow.Author.Needs.{needs}
 use Rattle.crossing.proofs.build.ask.Statement.{statement}
 use Rattle.crossing.proofs.build.ask.Tie as tie
 
+-- the number that was taken, and its call, where the block's kind is known
+abbrev at-sqn : tie.After-kind-of → tie.After-sqn
+at-sqn k = k .before .before
+
+abbrev at-new : tie.After-sqn → tie.After-new
+at-new k = k .before .before
+
 returns : tie.Need-returns
 unfolding partsArg andThen
 returns c =
     λ l d m.
-    let n = sym (c .before .before .before .before .before .before .before .before .before .new .ensures) ∙ ap sqnAnswer (c .before .before .before .before .before .before .before .sqn .given .1) in
-    let k = sym (c .before .before .before .before .before .kind-of .ensures l) ∙ ap (λ (x : Kind). kindAnswer x l) (c .before .before .before .block .given .1) in
+    let b = c .before .before .before in
+    let t = b .before .before in
+    let q = at-sqn t in
+    let n = sym (at-new q .new .ensures) ∙ ap sqnAnswer (q .sqn .given .1) in
+    let k = sym (t .kind-of .ensures l) ∙ ap (λ (x : Kind). kindAnswer x l) (b .block .given .1) in
     rw (n, k, c .before .from-raw .ensures, c .new2 .ensures)
 
 returns-2 : tie.Need-returns-2
 unfolding partsArg andThen
 returns-2 c =
     λ l d m.
-    let n = sym (c .before .before .before .before .before .before .before .new .ensures) ∙ ap sqnAnswer (c .before .before .before .before .before .sqn .given .1) in
+    let q = at-sqn (c .before .before .before) in
+    let n = sym (at-new q .new .ensures) ∙ ap sqnAnswer (q .sqn .given .1) in
     let k = sym (c .before .before .before .kind-of .ensures l) ∙ ap (λ (x : Kind). kindAnswer x l) (c .before .e .given .1) in
     rw (n, k)
 

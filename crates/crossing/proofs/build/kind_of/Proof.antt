@@ -18,11 +18,15 @@ returns c = λ l. sym (choose-true _ _ _ (eq-eqb _ _ (c .if1 .taken)))
 
 returns-2 : tie.Need-returns-2
 unfolding blockArg
-returns-2 c = λ l. sym (choose-false _ _ _ (ne-eqb _ _ (c .before .before .before .before .if1 .left)) ∙ then-given _ _ (λ (t : ℕ). given (scb t l)) (sym (c .before .before .before .from-byte .ensures) ∙ ap scsAnswer (c .before .t .given .1)))
+returns-2 c =
+    let t = c .before .before .before in
+    λ l. sym (choose-false _ _ _ (ne-eqb _ _ (t .before .if1 .left)) ∙ then-given _ _ (λ (t : ℕ). given (scb t l)) (sym (t .from-byte .ensures) ∙ ap scsAnswer (c .before .t .given .1)))
 
 returns-3 : tie.Need-returns-3
 unfolding blockArg
-returns-3 c = λ l. sym (choose-false _ _ _ (ne-eqb _ _ (c .before .before .before .before .if1 .left)) ∙ then-refused _ _ _ (λ (t : ℕ). given (scb t l)) (sym (c .before .before .before .from-byte .ensures) ∙ ap scsAnswer (c .before .e .given .1)))
+returns-3 c =
+    let t = c .before .before .before in
+    λ l. sym (choose-false _ _ _ (ne-eqb _ _ (t .before .if1 .left)) ∙ then-refused _ _ _ (λ (t : ℕ). given (scb t l)) (sym (t .from-byte .ensures) ∙ ap scsAnswer (c .before .e .given .1)))
 
 pub kind-of-spec : {M : Type 1} → statement M
 kind-of-spec =

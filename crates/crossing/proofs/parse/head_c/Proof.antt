@@ -8,7 +8,9 @@ use Rattle.crossing.proofs.parse.head_c.Statement.{statement}
 use Rattle.crossing.proofs.parse.head_c.Tie as tie
 
 returns : tie.Need-returns
-returns c = rw (c .before .before .given .ensures, c .before .as-byte .ensures, c .value .ensures) (sym (ap cHead (ap headAnswer (c .before .before .before .before .a .given .1))))
+returns c =
+    let g = c .before .before in
+    rw (g .given .ensures, c .before .as-byte .ensures, c .value .ensures) (sym (ap cHead (ap headAnswer (g .before .before .a .given .1))))
 
 returns-2 : tie.Need-returns-2
 returns-2 c = rw (c .refused .ensures) (sym (ap cHead (ap headAnswer (c .before .before .a2 .given .1))))

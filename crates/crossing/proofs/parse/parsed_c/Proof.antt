@@ -10,7 +10,8 @@ use Rattle.crossing.proofs.parse.parsed_c.Tie as tie
 returns : tie.Need-returns
 returns c =
     let k = c .before .before .before .before .before in
-    rw (c .trailer-value .ensures, c .before .is-crc .ensures, c .before .before .mac-start .ensures, c .before .before .before .block-len .ensures, c .before .before .before .before .block-start .ensures)
+    let m = c .before .before in
+    rw (c .trailer-value .ensures, c .before .is-crc .ensures, m .mac-start .ensures, m .before .block-len .ensures, m .before .before .block-start .ensures)
     (rw (k .block-type .ensures, k .before .value .ensures, k .before .before .as-byte .ensures, k .before .before .before .given .ensures)
     (sym (ap cParsed (ap parsed (k .before .before .before .before .before .a .given .1)))))
 

@@ -11,6 +11,17 @@ use borrow.Author.Needs.{needs}
 use Rattle.crossing.proofs.seal.seal_asked.Statement.{statement}
 use Rattle.crossing.proofs.seal.seal_asked.Tie as tie
 
+-- ---- the places of the code that the proofs go back to, each from the one after it
+
+abbrev start : tie.After-new → tie.Start
+start k = k .before .before .before .before .before
+
+abbrev at-new : tie.After-sqn → tie.After-new
+at-new k = k .before .before
+
+abbrev at-sqn : tie.After-from-raw → tie.After-sqn
+at-sqn k = k .before .before
+
 returns : tie.Need-returns
 returns c =
     let a = c .before .before .before .before .before .args in
@@ -18,19 +29,22 @@ returns c =
 
 returns-2 : tie.Need-returns-2
 returns-2 c =
-    let a = c .before .before .before .before .before .before .before .before .before .before .before .before .before .before .args in
-    let n = sym (ap sqnAnswer (c .before .before .before .before .before .before .before .sqn .given .1)) ∙ c .before .before .before .before .before .before .before .before .before .new .ensures in
+    let r = c .before .before .before .before .before in
+    let k = at-new (at-sqn r) in
+    let a = start k .args in
+    let n = sym (ap sqnAnswer (at-sqn r .sqn .given .1)) ∙ k .new .ensures in
     c .before .before .seal .ensures
     ∙ ap (λ (q : Asked). sealOf (a .x) q (a .out .now))
-    (asked-same (a .p) (a .«data» .now) _ _ _ (c .before .before .before .before .before .from-raw .ensures) n (c .before .before .before .before .direction-of .ensures))
+    (asked-same (a .p) (a .«data» .now) _ _ _ (r .from-raw .ensures) n (c .before .before .before .before .direction-of .ensures))
 
 returns-3 : tie.Need-returns-3
 returns-3 c =
-    let a = c .before .before .before .before .before .before .before .before .before .args in
+    let k = c .before .before .before .before in
+    let a = start k .args in
     let q = askedArg (a .p) (a .«data» .now) in
     let w = c .before .before .e .given in
-    let n = sqn-refused (a .p .sqn) _ (totalOf q) (length (a .out .now)) _ (sym (ap sqnAnswer (w .1)) ∙ c .before .before .before .before .new .ensures) in
-    told-refused (a .x) q (a .out .now) _ (c .before .before .before .before .before .before .is-secure .ensures) (c .before .before .before .before .before .if1 .left) n (w .0 .0) refl (c .seal-refused2 .ensures)
+    let n = sqn-refused (a .p .sqn) _ (totalOf q) (length (a .out .now)) _ (sym (ap sqnAnswer (w .1)) ∙ k .new .ensures) in
+    told-refused (a .x) q (a .out .now) _ (k .before .before .is-secure .ensures) (k .before .if1 .left) n (w .0 .0) refl (c .seal-refused2 .ensures)
 
 pub seal-asked-spec : {M : Type 1} → statement M
 seal-asked-spec =

@@ -14,27 +14,34 @@ use borrow.Author.Needs.{needs}
 use Rattle.ffi.proofs.build.malstrink_build_body.Statement.{statement}
 use Rattle.ffi.proofs.build.malstrink_build_body.Tie as tie
 
+-- what was asked for is known four places after the start
+abbrev start : tie.After-ask → tie.Start
+start k = k .before .before .before .before
+
 returns : tie.Need-returns
 returns c =
-    let a = c .before .before .before .before .before .before .before .before .before .before .before .before .args in
+    let built = c .before .before .before in
+    let k = built .before .before .before .before .before in
+    let a = start k .args in
     let l = a .block .now in
     let d = a .«data» .now in
     let o = a .out .now in
-    let w = c .before .before .before .before .before .before .w .given in
-    let e = sym (c .before .before .before .before .before .before .before .before .ask .ensures l d GivenMac.Absent) ∙ ap (λ (x : AskedPacket). askedParts x l d GivenMac.Absent) (w .1) in
+    let w = built .before .before .before .w .given in
+    let e = sym (k .ask .ensures l d GivenMac.Absent) ∙ ap (λ (x : AskedPacket). askedParts x l d GivenMac.Absent) (w .1) in
     let f = sym (body-asked (a .p) l d (length o) (partsGiven (w .0 .0) l d GivenMac.Absent) e) in
-    let g = c .before .before .before .build-body .ensures in
+    let g = built .build-body .ensures in
     (c .length-c .ensures ∙ ap cAnswer (g .0 ∙ ap sized f), g .1 ∙ ap (written o) f)
 
 returns-2 : tie.Need-returns-2
 returns-2 c =
-    let a = c .before .before .before .before .before .before .before .before .args in
+    let k = c .before .before .before .before in
+    let a = start k .args in
     let l = a .block .now in
     let d = a .«data» .now in
     let o = a .out .now in
     let w = c .before .before .e .given in
     let r = w .0 .0 in
-    let e = sym (c .before .before .before .before .ask .ensures l d GivenMac.Absent) ∙ ap (λ (x : AskedPacket). askedParts x l d GivenMac.Absent) (w .1) in
+    let e = sym (k .ask .ensures l d GivenMac.Absent) ∙ ap (λ (x : AskedPacket). askedParts x l d GivenMac.Absent) (w .1) in
     let f = sym (body-not-asked (a .p) l d (length o) (numberOf r) (valuesOf r) e) in
     (c .refused .ensures ∙ ap cAnswer (ap sized f), ap (written o) f)
 

@@ -11,10 +11,12 @@ use Rattle.ffi.proofs.head.malstrink_control_encode.Tie as tie
 
 returns : tie.Need-returns
 returns c =
-    let a = c .before .before .before .before .before .before .before .args in
+    let s = c .before .before .before .before in
+    let n = s .before .before in
+    let a = n .before .args in
     c .encoded-c .ensures
     ∙ ap cAnswer (c .before .encode .ensures ∙ ap encodeOf (c .before .before .new2 .ensures)
-    ∙ sym (then-given _ _ (λ (n : ℕ). encodeOf (record { sqn = n; crc = a .crc; block = a .block })) (sym (c .before .before .before .before .before .before .new .ensures) ∙ ap sqnAnswer (c .before .before .before .before .s .given .1))))
+    ∙ sym (then-given _ _ (λ (n : ℕ). encodeOf (record { sqn = n; crc = a .crc; block = a .block })) (sym (n .new .ensures) ∙ ap sqnAnswer (s .s .given .1))))
 
 returns-2 : tie.Need-returns-2
 returns-2 c =

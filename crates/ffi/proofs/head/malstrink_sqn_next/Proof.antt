@@ -9,7 +9,9 @@ use Rattle.ffi.proofs.head.malstrink_sqn_next.Statement.{statement}
 use Rattle.ffi.proofs.head.malstrink_sqn_next.Tie as tie
 
 returns : tie.Need-returns
-returns c = c .sqn-c .ensures ∙ ap cAnswer (c .before .next .ensures ∙ sym (then-given _ _ nextOf (sym (c .before .before .before .before .before .new .ensures) ∙ ap sqnAnswer (c .before .before .before .s .given .1))))
+returns c =
+    let s = c .before .before .before in
+    c .sqn-c .ensures ∙ ap cAnswer (c .before .next .ensures ∙ sym (then-given _ _ nextOf (sym (s .before .before .new .ensures) ∙ ap sqnAnswer (s .s .given .1))))
 
 returns-2 : tie.Need-returns-2
 returns-2 c = c .refused .ensures ∙ ap cAnswer (sym (then-refused _ _ _ nextOf (sym (c .before .before .before .before .new .ensures) ∙ ap sqnAnswer (c .before .before .e .given .1))))

@@ -7,18 +7,25 @@ use borrow.Author.Needs.{needs}
 use Rattle.ffi.proofs.seal.malstrink_unseal.Statement.{statement}
 use Rattle.ffi.proofs.seal.malstrink_unseal.Tie as tie
 
+-- a session that was asked for is known three places after the start
+abbrev start : tie.After-take → tie.Start
+start k = k .before .before .before
+
 returns : tie.Need-returns
 returns c =
-    let t = c .before .before .before .before .before .before .before .before .take in
-    let a = c .before .before .before .before .before .before .before .before .before .before .before .args in
+    let y = c .before .before .before .before .before in
+    let k = y .before .before .before in
+    let t = k .take in
+    let a = start k .args in
     let d = c .before .before .before .unseal in
-    let g = unseal-read _ (t .result) (t .ensures .0) (c .before .before .before .before .before .enum-told .given .1) (a .frame .now) (a .work .now) (d .result) _ (d .ensures) in
+    let g = unseal-read _ (t .result) (t .ensures .0) (y .enum-told .given .1) (a .frame .now) (a .work .now) (d .result) _ (d .ensures) in
     (c .unsealed-c .ensures ∙ ap (λ (x : UnsealedC). x .told) g, ap (λ (x : UnsealedC). x .work) g)
 
 returns-2 : tie.Need-returns-2
 returns-2 c =
-    let t = c .before .before .before .before .before .take in
-    let a = c .before .before .before .before .before .before .before .before .args in
+    let k = c .before .before .before .before .before in
+    let t = k .take in
+    let a = start k .args in
     let w = c .before .before .outcome .given in
     let g = unseal-not _ (t .result) (t .ensures .0) (w .0 .0) (w .1) (a .frame .now) (a .work .now) in
     (c .no-payload .ensures ∙ ap (λ (x : UnsealedC). x .told) g, ap (λ (x : UnsealedC). x .work) g)

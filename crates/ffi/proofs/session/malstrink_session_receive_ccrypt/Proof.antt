@@ -8,8 +8,9 @@ use Rattle.ffi.proofs.session.malstrink_session_receive_ccrypt.Tie as t
 
 returns : tie.Need-returns
 returns c =
-    let t = c .before .before .before .before .before .before .before .before .take in
-    c .stepped-c .ensures ∙ stepped-read _ (t .result) (t .ensures .0) (c .before .before .before .before .before .enum-told .given .1) _ _ (c .before .receive-ccrypt .ensures)
+    let y = c .before .before .before .before .before in
+    let t = y .before .before .before .take in
+    c .stepped-c .ensures ∙ stepped-read _ (t .result) (t .ensures .0) (y .enum-told .given .1) _ _ (c .before .receive-ccrypt .ensures)
 
 returns-2 : tie.Need-returns-2
 returns-2 c =

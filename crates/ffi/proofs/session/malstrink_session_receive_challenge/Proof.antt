@@ -8,9 +8,10 @@ use Rattle.ffi.proofs.session.malstrink_session_receive_challenge.Tie a
 
 returns : tie.Need-returns
 returns c =
-    let t = c .before .before .before .before .before .before .before .take in
+    let y = c .before .before .before .before in
+    let t = y .before .before .before .take in
     let g = c .before .receive-challenge in
-    c .stepped-block-c .ensures ∙ block-read _ (t .result) (t .ensures .0) (c .before .before .before .before .enum-told .given .1) _ (g .result) (g .ensures .0) (g .ensures .1)
+    c .stepped-block-c .ensures ∙ block-read _ (t .result) (t .ensures .0) (y .enum-told .given .1) _ (g .result) (g .ensures .0) (g .ensures .1)
 
 returns-2 : tie.Need-returns-2
 returns-2 c =

@@ -28,8 +28,9 @@ returns-2 c =
 returns-3 : tie.Need-returns-3
 returns-3 c =
     let s = c .before .before in
-    let a = s .before .before .before .before .before .before .before .args in
-    s .bad-padding2 .ensures ∙ decrypt-ragged (a .s-enc) (a .iv) (a .ct .now) (a .out .now) (s .before .before .before .before .if1 .left) (s .before .before .before .if2 .left) (s .before .before .if3 .taken)
+    let t = s .before .before in
+    let a = t .before .before .before .before .before .args in
+    s .bad-padding2 .ensures ∙ decrypt-ragged (a .s-enc) (a .iv) (a .ct .now) (a .out .now) (t .before .before .if1 .left) (t .before .if2 .left) (t .if3 .taken)
 
 counted : tie.Need-slice-aggregate-unpad-data
 counted c =

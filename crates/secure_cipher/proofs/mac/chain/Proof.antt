@@ -24,14 +24,16 @@ abbrev μ-loop : tie.MeasureT-loop
 
 loop-again : tie.Need-loop-again Inv-loop μ-loop
 loop-again c =
-    let l = c .before .before .before .before .before .loop in
-    let a = c .before .before .before .before .before .before .before .before .before .args in
+    let round = c .before .before .before .before .before in
+    let l = round .loop in
+    let s = round .before .before .before .before in
+    let a = s .args in
     let x : c .before .before .xor .result ≡ xorl (l .v) (take 16 (drop (l .i * 16) (a .s .now))) =
     c .before .before .xor .ensures ∙ ap (xorl (l .v)) (c .before .before .before .block-at .ensures) in (
       omega arith,
       λ k h.
           chain-step k (a .s .now) (a .n) (l .i) (l .v) (c .encrypt .result) (c .before .before .before .before .loop-test .taken)
-          (enciphers (a .t .now) _ k _ _ (c .before .before .before .before .before .before .before .before .before .pre .1) h (c .encrypt .ensures) ∙ ap (E k) x)
+          (enciphers (a .t .now) _ k _ _ (s .pre .1) h (c .encrypt .ensures) ∙ ap (E k) x)
           ∙ l .inv .1 k h,
     )
 

@@ -24,10 +24,14 @@ returns : tie.Need-returns Inv-loop μ-loop
 returns c = unpad-found _ (c .before .before .before .loop .i) _ (omega arith) (c .if1 .taken) ∙ c .before .before .before .loop .inv .1
 
 returns-2 : tie.Need-returns-2 Inv-loop μ-loop
-returns-2 c = unpad-bad _ (c .before .before .before .before .loop .i) _ (omega arith) (c .if2 .taken) (c .before .if1 .left) ∙ c .before .before .before .before .loop .inv .1
+returns-2 c =
+    let l = c .before .before .before .before .loop in
+    unpad-bad _ (l .i) _ (omega arith) (c .if2 .taken) (c .before .if1 .left) ∙ l .inv .1
 
 loop-again : tie.Need-loop-again Inv-loop μ-loop
-loop-again c = (omega arith, unpad-zero _ (c .before .before .before .before .loop .i) _ (omega arith) (c .if2 .left) ∙ c .before .before .before .before .loop .inv .1)
+loop-again c =
+    let l = c .before .before .before .before .loop in
+    (omega arith, unpad-zero _ (l .i) _ (omega arith) (c .if2 .left) ∙ l .inv .1)
 
 returns-3 : tie.Need-returns-3 Inv-loop μ-loop
 returns-3 c = unpad-none _ (c .before .loop .i) (omega arith) ∙ c .before .loop .inv .1

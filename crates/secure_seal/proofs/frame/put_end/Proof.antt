@@ -12,8 +12,9 @@ use Rattle.secure_seal.proofs.frame.put_end.Tie as tie
 
 slice-aggregate-crc16-le : tie.Need-slice-aggregate-crc16-le
 slice-aggregate-crc16-le c =
-    let a = c .before .before .before .before .before .before .before .args in
-    sym (length-take-le (a .end + 4) (c .before .before .before .copy .last .0) (search needs))
+    let laid = c .before .before .before in
+    let a = laid .before .before .before .before .args in
+    sym (length-take-le (a .end + 4) (laid .copy .last .0) (search needs))
 
 returns : tie.Need-returns
 returns c =

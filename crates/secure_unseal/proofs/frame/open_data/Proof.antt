@@ -7,8 +7,9 @@ use Rattle.secure_unseal.proofs.frame.open_data.Tie as tie
 
 returns : tie.Need-returns
 returns c =
-    let a = c .before .before .before .before .before .before .before .args in
-    open-made (a .session) (a .frame .now) (a .work .now) (a .at) (a .len) (c .before .before .open-data .ensures)
+    let o = c .before .before in
+    let a = o .before .before .before .before .before .args in
+    open-made (a .session) (a .frame .now) (a .work .now) (a .at) (a .len) (o .open-data .ensures)
 
 pub open-data-spec : {M : Type 1} → statement M
 open-data-spec =

@@ -26,12 +26,13 @@ unseal-parsed-requires c κs =
 
 returns-2 : tie.Need-returns-2
 returns-2 c =
-    let q = c .before .before .before .before .before .before .before in
+    let p = c .before .before .before .before .before in
+    let q = p .before .before in
     let i = q .before .before in
     let a = i .before .before .before .args in
     c .before .before .unseal-parsed .ensures
     ∙ on-secure (a .session) (a .frame .now) (a .work .now) (sym (i .is-secure .ensures) ∙ not-false _ (q .before .if1 .left))
-    (ap (λ (x : Answer Fields). unsealParsed (a .session .keys) (recvFrom (a .session)) (a .frame .now) x (a .work .now)) (sym (ap parsed (c .before .before .before .before .before .p .given .1)) ∙ q .parse .ensures))
+    (ap (λ (x : Answer Fields). unsealParsed (a .session .keys) (recvFrom (a .session)) (a .frame .now) x (a .work .now)) (sym (ap parsed (p .p .given .1)) ∙ q .parse .ensures))
 
 returns-3 : tie.Need-returns-3
 returns-3 c =

@@ -97,7 +97,10 @@ returns-2 c =
     (hidden-wrong (a .session .keys) (recvFrom (a .session)) (a .frame .now) (fields (a .p)) (a .work .now) (s .pre .2) (opened d) _ _ (ap lengthAnswer (g .opened .given .1)) (counted m) _ _ _ (y .1) (y .2) (c .before .before .before .wipe .ensures ∙ z) (y .0))
 
 same-length-2 : tie.Need-same-length-2
-same-length-2 c = c .before .before .work2 .given ∙ at-calls (at-check (c .before .before .before .before)) .before .before .before .before .before .work .given
+same-length-2 c =
+    let m = at-calls (at-check (c .before .before .before .before)) in
+    c .before .before .work2 .given
+    ∙ m .before .before .before .before .before .work .given
 
 returns-3 : tie.Need-returns-3
 returns-3 c =

@@ -20,7 +20,15 @@ type-tested : (test : ℕ → Bool) {b q : BlockPart} {x y : Bool} → b ≡ q �
 type-tested test e r t = ap (λ (p : BlockPart). test (typeIn (blockPlace p))) e ∙ sym r ∙ t
 
 -- where the code asks for the MAC's place, the type has a MAC
-mac-due : (m : tie.After-mac-start) → hasMac (typeIn (fields (m .before .before .before .before .before .before .before .before .args .p) .block)) ≡ true
+-- ---- the places of the code that the proofs go back to, each from the one after it
+
+abbrev start : tie.After-block → tie.Start
+start g = g .before .before .before .before
+
+abbrev at-block : tie.After-mac-start → tie.After-block
+at-block m = m .before .before .before .before
+
+mac-due : (m : tie.After-mac-start) → hasMac (typeIn (fields (start (at-block m) .args .p) .block)) ≡ true
 mac-due m =
     let h = m .before .before in
     type-tested hasMac (h .before .before .block .given .1) (h .has-mac .ensures) (m .before .if1 .taken)
@@ -28,7 +36,7 @@ mac-due m =
 unseal-hidden-requires : tie.Need-unseal-hidden-requires
 unseal-hidden-requires c κs =
     let m = c .before .before .before in
-    let s = m .before .before .before .before .before .before .before .before in
+    let s = start (at-block m) in
     let a = s .args in
     let f = fields (a .p) in
     (s .pre .0, omega (arith, m .mac-start .ensures, mac-inside (a .frame .now) f (s .pre .1) (mac-due m)), data-inside (a .frame .now) f (s .pre .1))
@@ -36,7 +44,7 @@ unseal-hidden-requires c κs =
 unseal-plain-requires : tie.Need-unseal-plain-requires
 unseal-plain-requires c κs =
     let m = c .before .before in
-    let s = m .before .before .before .before .before .before .before .before in
+    let s = start (at-block m) in
     let a = s .args in
     let f = fields (a .p) in
     (s .pre .0, omega (arith, m .mac-start .ensures, mac-inside (a .frame .now) f (s .pre .1) (mac-due m)))
@@ -52,8 +60,8 @@ returns-2 c =
     let u = c .before .before in
     let e = u .before .before .before in
     let m = e .before in
-    let g = m .before .before .before .before in
-    let a = g .before .before .before .before .args in
+    let g = at-block m in
+    let a = start g .args in
     let f = fields (a .p) in
     let k = a .session .keys in
     let v = recvFrom (a .session) in
@@ -67,8 +75,8 @@ returns-3 : tie.Need-returns-3
 returns-3 c =
     let e = c .before .before in
     let m = e .before in
-    let g = m .before .before .before .before in
-    let a = g .before .before .before .before .args in
+    let g = at-block m in
+    let a = start g .args in
     let f = fields (a .p) in
     let k = a .session .keys in
     let v = recvFrom (a .session) in
@@ -81,7 +89,7 @@ returns-4 : tie.Need-returns-4
 returns-4 c =
     let h = c .before .before in
     let g = h .before .before in
-    let a = g .before .before .before .before .args in
+    let a = start g .args in
     stops (c .stopped2 .ensures)
     (parsed-no (a .session .keys) (recvFrom (a .session)) (a .frame .now) (fields (a .p)) (a .work .now) (type-tested hasMac (g .block .given .1) (h .has-mac .ensures) (c .before .if1 .left)))
 

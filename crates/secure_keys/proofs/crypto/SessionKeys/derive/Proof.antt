@@ -19,10 +19,11 @@ three k a x y z e f g = rw (e, f, g)
 
 returns : tie.Need-returns
 returns c =
-    let x = c .before .before .before .before .before .before .before .before .before in
+    let first = c .before .before .before .before .before .before in
+    let x = first .before .before .before in
     let t = x .before .before .encrypt-tables in
     let a = x .before .before .before .args in
-    let k₁ = c .before .before .before .before .before .before .session-key in
+    let k₁ = first .session-key in
     let k₂ = c .before .before .before .session-key2 in
     let k₃ = c .session-key3 in
     let u : (b r : List ℕ) → r ≡ enciphered (t .result) (x .encrypt-key .result) b → r ≡ E (a .scbk) b =

@@ -16,8 +16,11 @@ returns c =
 
 -- what the tests before the comparison came to
 module _ (m : tie.After-cbc-mac) where
+  abbrev secure : tie.Else1
+  secure = m .before .before .before .before .before
+
   abbrev start : tie.Start
-  start = m .before .before .before .before .before .before .before .before
+  start = secure .before .before .before
 
   full-is : m .cbc-mac .result .full ≡ sessionMac (start .args .self) (m .before .recv-from .result) (start .args .bytes .now) .full
   full-is = ap (λ (x : Mac). x .full) (m .cbc-mac .ensures)
@@ -26,7 +29,7 @@ returns-2 : tie.Need-returns-2
 returns-2 c =
     let b = c .before .before in
     let m = b .before in
-    let i = m .before .before .before .before .before in
+    let i = secure m in
     let a = start m .args in
     verify-done (a .self) (i .before .is-secure .ensures) (not-false _ (i .if1 .left)) (a .bytes .now) (a .wire-mac) (m .before .recv-from .ensures)
     (full-is m) (b .begins-with .ensures) (c .before .if2 .taken) (c .received .ensures)
@@ -35,7 +38,7 @@ returns-3 : tie.Need-returns-3
 returns-3 c =
     let b = c .before in
     let m = b .before in
-    let i = m .before .before .before .before .before in
+    let i = secure m in
     let a = start m .args in
     verify-wrong (a .self) (i .before .is-secure .ensures) (not-false _ (i .if1 .left)) (a .bytes .now) (a .wire-mac) (m .before .recv-from .ensures)
     (full-is m) (b .begins-with .ensures) (c .if2 .left)
