@@ -11,11 +11,9 @@ use borrow.Rule.Slice.PartMut.{putMid}
 use Rattle.laws.specs.Answer.{Answer.given}
 use Rattle.laws.specs.Bytes.{compl}
 use Rattle.laws.specs.Over.{write}
-use Rattle.laws.proofs.Overwrite.{length-write, write-write, take-write, part-write}
+use Rattle.laws.proofs.Overwrite.{write-write, take-write, part-write}
 use Rattle.laws.proofs.Listed.{front-listed}
-use Rattle.slices.specs.Copy.{copyOf}
 use Rattle.slices.specs.Number.{lowFirst}
-use Rattle.slices.proofs.CopyLaws.{copied-all}
 use Rattle.packet_sums.specs.Crc.{crcOf}
 use Rattle.packet_build.specs.Build.{FrameBlock.scb, bodyBytes, tailBytes, frameBytes}
 use Rattle.packet_build.proofs.Sizes.{body-length}
@@ -38,15 +36,13 @@ head-bytes a b total v sqn k t code l ea el ev ek =
     let e : v + 12 ≡ sqn + 4 + 8 = omega arith in
     rw (ea, el, e, ek)
 
--- the first four bytes of f, and the CRC of all before it, copied one after the other
-pub end-written : (o o₁ o₂ f c : List ℕ) (end : ℕ) → length f ≡ 16 → end + 6 ≤ length o
-    → o₁ ≡ copyOf o end (getD f 0 0 ∷ getD f 1 0 ∷ getD f 2 0 ∷ getD f 3 0 ∷ []) → c ≡ lowFirst 2 (crcOf (take (end + 4) o₁)) → o₂ ≡ copyOf o₁ (end + 4) c
+-- the first four bytes of f, and the CRC of all before it, laid one after the other
+pub end-written : (o o₁ o₂ f c : List ℕ) (end : ℕ) → length f ≡ 16
+    → o₁ ≡ write o end (getD f 0 0 ∷ getD f 1 0 ∷ getD f 2 0 ∷ getD f 3 0 ∷ []) → c ≡ lowFirst 2 (crcOf (take (end + 4) o₁)) → o₂ ≡ write o₁ (end + 4) c
     → o₂ ≡ write (write o end (take 4 f)) (end + 4) (tailBytes true (take (end + 4) (write o end (take 4 f))))
-end-written o o₁ o₂ f c end n room e₁ ec e₂ =
-    let four = getD f 0 0 ∷ getD f 1 0 ∷ getD f 2 0 ∷ getD f 3 0 ∷ [] in
-    let w : o₁ ≡ write o end (take 4 f) = copied-all o end four e₁ (omega arith) ∙ ap (write o end) (front-listed f 4 (omega arith)) in
-    let l : length o₁ ≡ length o = ap length w ∙ length-write o end (take 4 f) (omega (arith, length-take-le 4 f (omega arith))) in
-    copied-all o₁ (end + 4) c e₂ (omega (arith, ap length ec)) ∙ ap₂ (λ (x t : List ℕ). write x (end + 4) t) w (ec ∙ ap (λ (x : List ℕ). tailBytes true (take (end + 4) x)) w)
+end-written o o₁ o₂ f c end n e₁ ec e₂ =
+    let w : o₁ ≡ write o end (take 4 f) = e₁ ∙ ap (write o end) (front-listed f 4 (omega arith)) in
+    e₂ ∙ ap₂ (λ (x t : List ℕ). write x (end + 4) t) w (ec ∙ ap (λ (x : List ℕ). tailBytes true (take (end + 4) x)) w)
 
 -- ---- the whole: y is the data, m the MAC
 

@@ -151,10 +151,11 @@ fn put_end(full: [u8; 16], end: usize, out: &mut [u8])
     ensures { λ _. ⌜ now (out .exit) ≡ write (write (now (out .entry)) end (take «MAC_LEN» full)) (end + «MAC_LEN») (tailBytes true (take (end + «MAC_LEN») (write (now (out .entry)) end (take «MAC_LEN» full)))) ⌝ }
 {
     let mac = [full[0], full[1], full[2], full[3]];
-    slices::copy(out, end, &mac);
     let crc_at = end + MAC_LEN;
+    slices::copy(&mut out[end..crc_at], 0, &mac);
     let crc = packet_sums::crc16_le(&out[..crc_at]);
-    slices::copy(out, crc_at, &crc);
+    out[crc_at] = crc[0];
+    out[crc_at + 1] = crc[1];
 }
 
 // The frame of total bytes at the front of out; how often the cipher was called for all of it, and the session with its chain moved by
