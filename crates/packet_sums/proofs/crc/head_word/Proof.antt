@@ -27,13 +27,16 @@ returns-2 c =
 returns-3 : tie.Need-returns-3
 unfolding wordFrom
 returns-3 c =
-    let s = c .before .before .before .before .before .before .before .before .before .args .s .now in
+    let tested = c .before .before .before .before .before in
+    let s = tested .before .before .before .before .args .s .now in
     found s 4 (c .word-be2 .result) (word-same 0xFFFF (part-read s 0 3 (omega arith)) (c .word-be2 .ensures)) (omega arith)
 
 returns-4 : tie.Need-returns-4
 unfolding wordFrom
 returns-4 c =
-    let s = c .before .before .before .before .before .before .before .before .before .before .before .args .s .now in
+    -- no byte is read yet
+    let tested = c .before .before .before .before .before .before in
+    let s = tested .before .before .before .before .before .args .s .now in
     found s 6 (c .word-be3 .result) (word-same 0xFFFF (part-read s 0 5 (omega arith)) (c .word-be3 .ensures)) (omega arith)
 
 pub head-word-spec : {M : Type 1} → statement M

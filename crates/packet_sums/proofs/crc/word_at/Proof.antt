@@ -8,7 +8,9 @@ use Rattle.packet_sums.proofs.crc.word_at.Tie as tie
 
 returns : tie.Need-returns
 returns c =
-    let b = c .before .before .before .before .before .before .before .before .before .before in
+    -- five of the eight bytes are read
+    let five = c .before .before .before .before in
+    let b = five .before .before .before .before .before .before in
     word-same 0 (part-read (b .args .s .now) (b .args .i) 7 (omega arith)) (c .word-be .ensures)
 
 pub word-at-spec : {M : Type 1} → statement M

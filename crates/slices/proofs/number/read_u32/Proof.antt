@@ -15,7 +15,9 @@ returns-2 c = let a = c .before .before .before .args in sym (none-read (a .s .n
 
 returns-3 : tie.Need-returns-3
 returns-3 c =
-    let a = c .before .before .before .before .before .before .before .before .before .args in
+    let low = c .before .before .before in
+    let tested = low .before .before .before in
+    let a = tested .before .before .before .args in
     omega (arith, four-read (a .s .now) (a .at) (omega arith))
 
 pub read-u32-spec : {M : Type 1} → statement M
