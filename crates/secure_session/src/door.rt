@@ -1,5 +1,6 @@
 // The doors of the C boundary. C holds a session's contents itself, so there they must come in and go out: these two calls, and nothing
-// else beside the calls of the handshake and the channel, make a session or show what it holds. Only the crate `ffi` uses them.
+// else beside the calls of the handshake and the channel, make a session or show what it holds. Only the crate `crossing` uses them;
+// its calls over them are for `ffi` alone.
 ghost use mathlib.Core.Path.{_≡_};
 ghost use Rattle.secure_session.specs.Door.{doorOut, doorIn};
 use super::chain::Chain;
