@@ -82,6 +82,7 @@ enum {
     MALSTRINK_REFUSAL_WRONG_STATE = 16, /* nothing */
     MALSTRINK_REFUSAL_BLOCK_TOO_LONG = 17, /* the length of that data */
     MALSTRINK_REFUSAL_NO_ROOM = 18, /* need, have */
+    MALSTRINK_REFUSAL_BAD_BODY = 19, /* the code */
 };
 /* a session's end and state */
 enum { MALSTRINK_END_CONTROLLER = 0, MALSTRINK_END_READER = 1 };

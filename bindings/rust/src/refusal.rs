@@ -98,6 +98,8 @@ pub enum Refusal {
         /// How long the buffer is.
         have: usize,
     },
+    /// 19: a payload is no body of its code, carried here, or that code is not listed.
+    BadBody(u8),
 }
 
 impl Refusal {
@@ -123,6 +125,7 @@ impl Refusal {
             WrongState => 16,
             BlockTooLong(_) => 17,
             NoRoom { .. } => 18,
+            BadBody(_) => 19,
         }
     }
 
@@ -150,6 +153,7 @@ impl Refusal {
             16 => WrongState,
             17 => BlockTooLong(a),
             18 => NoRoom { need: a, have: b },
+            19 => BadBody(x),
             _ => return None,
         })
     }
@@ -177,6 +181,7 @@ impl fmt::Display for Refusal {
             WrongState => f.write_str("the call is not for this state or this end of a session"),
             BlockTooLong(n) => write!(f, "block data of {n} bytes is longer than 253"),
             NoRoom { need, have } => write!(f, "the buffer has {have} bytes and {need} are needed"),
+            BadBody(code) => write!(f, "the payload is no body of code {code:02X}"),
         }
     }
 }

@@ -36,6 +36,7 @@ table a b =
     ∷ Refusal.WrongState
     ∷ Refusal.BlockTooLong a
     ∷ Refusal.NoRoom a b
+    ∷ Refusal.BadBody a
     ∷ []
 
 -- the refusal of a number and its values; what no refusal reads as does not matter
@@ -65,6 +66,7 @@ told-back Refusal.BadCryptogram = refl
 told-back Refusal.WrongState = refl
 told-back (Refusal.BlockTooLong x) = refl
 told-back (Refusal.NoRoom x y) = refl
+told-back (Refusal.BadBody x) = refl
 
 pub same-refusal : (r s : Refusal) → _≡_ {A = Answer ℕ} (refusalOf r) (refusalOf s) → r ≡ s
 same-refusal = one-reading refusalOf refusalBack told-back

@@ -25,6 +25,7 @@ numberOf Refusal.BadCryptogram = 15
 numberOf Refusal.WrongState = 16
 numberOf (Refusal.BlockTooLong n) = 17
 numberOf (Refusal.NoRoom need have) = 18
+numberOf (Refusal.BadBody code) = 19
 
 abbrev pub valuesOf : Refusal → List ℕ
 valuesOf (Refusal.Truncated have need) = have ∷ need ∷ []
@@ -45,6 +46,7 @@ valuesOf Refusal.BadCryptogram = []
 valuesOf Refusal.WrongState = []
 valuesOf (Refusal.BlockTooLong n) = n ∷ []
 valuesOf (Refusal.NoRoom need have) = need ∷ have ∷ []
+valuesOf (Refusal.BadBody code) = code ∷ []
 
 -- a refusal, as a call's answer
 abbrev pub refusalOf : {A : Type 0} → Refusal → Answer A

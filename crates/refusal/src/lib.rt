@@ -22,6 +22,7 @@ pub enum Refusal {
     WrongState,
     BlockTooLong(usize),
     NoRoom { need: usize, have: usize },
+    BadBody(u8),
 }
 
 // What a call answers that has nothing else to give.
@@ -80,6 +81,7 @@ impl Refusal {
             Refusal::WrongState => row(16, 0, 0),
             Refusal::BlockTooLong(n) => row(17, n, 0),
             Refusal::NoRoom { need, have } => row(18, need, have),
+            Refusal::BadBody(code) => row(19, code as usize, 0),
         }
     }
 }
