@@ -1,4 +1,7 @@
-// The README's first use: read a frame; shake hands, seal a badge number at the reader, open it at the controller.
+// The README's first use: read a frame; shake hands, seal a badge at the reader, open it at the controller, read its number.
+use body_read::BadgeAnswer;
+use body_read::Body;
+use body_read::ReadAnswer;
 use libc::STDOUT_FILENO;
 use packet::Address;
 use packet::Parsed;
@@ -53,6 +56,34 @@ fn handshake(scbk: [u8; 16], cuid: [u8; 8], rnd_a: [u8; 8], rnd_b: [u8; 8]) -> E
     }
 }
 
+fn put_number(body: Body, payload: &[u8]) {
+    match body_read::badge_number(body, payload) {
+        BadgeAnswer::Number(n) => {
+            io::write_all(STDOUT_FILENO, b"badge ");
+            io::print_decimal(STDOUT_FILENO, n);
+            io::write_all(STDOUT_FILENO, b"\n");
+        }
+        BadgeAnswer::NoNumber => {
+            io::write_all(STDOUT_FILENO, b"no number\n");
+        }
+    }
+}
+
+fn put_body(code: u8, payload: &[u8]) {
+    match body_read::read(code, payload) {
+        ReadAnswer::Good(body) => put_number(body, payload),
+        ReadAnswer::Refused(e) => put_refused(e),
+    }
+}
+
+// The code stands in the frame as it came, the payload where unsealing put it.
+fn put_reply(frame: &[u8], payload: &[u8]) {
+    match packet::parse(frame) {
+        Parsed::Good(p) => put_body(p.code, payload),
+        Parsed::Refused(e) => put_refused(e),
+    }
+}
+
 fn put_opened(controller: Session, frame: &[u8]) {
     let mut work = [0u8; 64];
     let opened = secure::unseal(controller, frame, &mut work);
@@ -64,14 +95,13 @@ fn put_opened(controller: Session, frame: &[u8]) {
             len,
         } => {
             let payload = secure::payload(frame, &work, in_work, start, len);
-            io::write_all(STDOUT_FILENO, payload);
-            io::write_all(STDOUT_FILENO, b"\n");
+            put_reply(frame, payload);
         }
         PlaceAnswer::Refused(e) => put_refused(e),
     }
 }
 
-fn put_badge(reader: Session, controller: Session, badge: &[u8]) {
+fn seal_badge(reader: Session, controller: Session, badge: &[u8]) {
     let mut frame = [0u8; 64];
     let sealed = secure::seal(
         reader,
@@ -98,7 +128,10 @@ fn main() {
     let controller = ends.controller;
     let reader = ends.reader;
     match outcome {
-        Outcome::Done => put_badge(reader, controller, b"conservator 31415"),
+        Outcome::Done => {
+            let badge = [0, 1, 26, 0, 0x8F, 0xA3, 0x40, 0x40];
+            seal_badge(reader, controller, &badge)
+        }
         Outcome::Refused(e) => put_refused(e),
     }
 }
