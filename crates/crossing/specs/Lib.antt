@@ -4,3 +4,4 @@ pub mod Building
 pub mod Ciphers
 pub mod Sessions
 pub mod Sealing
+pub mod Bodies

@@ -1,5 +1,6 @@
 // What crosses the C boundary: the records that C has, and the ways in and out of them. Each record is promised field by field.
 mod answer;
+mod body;
 mod build;
 mod cipher;
 mod head;
@@ -12,6 +13,10 @@ pub use answer::CAnswer;
 pub use answer::length_c;
 pub use answer::outcome_c;
 pub use answer::refused;
+pub use body::CBody;
+pub use body::CTriple;
+pub use body::body_c;
+pub use body::triple_c;
 pub use build::AskedPacket;
 pub use build::CMac;
 pub use build::CPacket;

@@ -1,4 +1,5 @@
 // The C face: every answer is a number and values, every slice a pointer and a length.
+mod body;
 mod build;
 mod channel;
 mod cipher;
@@ -9,6 +10,8 @@ mod seal;
 mod session;
 mod sums;
 
+pub use body::malstrink_read_body;
+pub use body::malstrink_triple;
 pub use build::malstrink_build;
 pub use build::malstrink_build_body;
 pub use channel::malstrink_session_keys;
