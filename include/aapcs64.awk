@@ -4,7 +4,8 @@
 #   - An answer in memory: its place comes first on x86-64, in a register of its own (sret) here.
 #   - A struct that x86-64 takes on the stack (byval): of more than 16 bytes it comes as the place
 #     of the caller's copy, else in registers.
-#   - The other structs come in one or two registers on both, and eight have to be enough for all.
+#   - The other structs come in one or two registers on both, and eight have to be enough for all; a
+#     struct of four bytes or of 16 is answered in one or two, as its bytes stand in memory, on both.
 function fail(why) { print "aapcs64: " name ": " why > "/dev/stderr"; bad = 1; exit 1 }
 /^target datalayout/ { next }
 /^target triple/ { print "target triple = \"aarch64-unknown-linux-gnu\""; next }
@@ -17,7 +18,7 @@ function fail(why) { print "aapcs64: " name ": " why > "/dev/stderr"; bad = 1; e
     count = split(substr(rest, 1, end - 1), taken, ", ")
     stores = ""
     registers = 0
-    if (answer !~ /^define (noundef ptr|noundef i(8|16|32|64)|\{ i64, i64 \}) $/) fail("answers " answer)
+    if (answer !~ /^define (noundef ptr|noundef i(8|16|32|64)|i32|\{ i64, i64 \}) $/) fail("answers " answer)
     for (i = 1; i <= count; i++) {
         place = taken[i]
         sub(/.* /, "", place)

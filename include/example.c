@@ -1,10 +1,12 @@
 /* A handshake between a controller and a reader, then three commands and their replies, sealed and
-   opened, and at the end both sessions wiped. Build, once include/archive has made the archive:
+   opened, the replies' bodies read, and at the end both sessions wiped. Build, once include/archive
+   has made the archive:
        export PKG_CONFIG_PATH=target/archive/$(uname -m)
        cc include/example.c $(pkg-config --cflags --libs malstrink)
    While you work on a program, compile it with -DMALSTRINK_CHECK as well: buffers that overlap are
    then caught. */
 #include "malstrink.h"
+#include <inttypes.h>
 #include <stdio.h>
 #include <stdlib.h>
 #include <string.h>
@@ -17,13 +19,22 @@ static void ask(MalstrinkAnswer a, const char *call)
     }
 }
 
-/* One end seals text, the other opens it. Three buffers, and no two share a byte: what is sealed,
+/* What a reply says. Its code stands in the frame; unsealing has found it right, with the rest. The
+   payload is the opened one: what the frame itself holds is encrypted. */
+static void show(const uint8_t *frame, size_t frame_n, MalstrinkOpened opened)
+{
+    uint8_t code = malstrink_parse(frame, frame_n).code;
+    MalstrinkBody body = malstrink_read_body(code, opened.payload, opened.len);
+    ask(body.answer, "read_body");
+    if (body.has_number) printf("badge %" PRIu64 " at reader %u\n", body.number, body.reader);
+    else printf("code %X\n", body.code);
+}
+
+/* One end seals data, the other opens it. Three buffers, and no two share a byte: what is sealed,
    the frame on the line, and the room in which the other end opens it. Both sessions move on: a
    frame is opened once, and the next one is sealed from where this one left. */
-static void carry(MalstrinkSession *from, MalstrinkSession *to, MalstrinkToSeal p, const char *text)
+static void carry(MalstrinkSession *from, MalstrinkSession *to, MalstrinkToSeal p, const uint8_t *data, size_t n)
 {
-    const uint8_t *data = (const uint8_t *)text;
-    const size_t n = strlen(text);
     uint8_t frame[128], work[128];
     MalstrinkCiphered sealed = malstrink_seal_in(from, p, data, n, frame, sizeof frame);
     ask(sealed.answer, "seal");
@@ -33,8 +44,9 @@ static void carry(MalstrinkSession *from, MalstrinkSession *to, MalstrinkToSeal 
         puts("the payload or the chain differs");
         exit(1);
     }
-    printf("sqn %u, frame of %zu bytes, %zu cipher calls, opened: %.*s\n", p.sqn, sealed.answer.a, sealed.calls, (int)opened.len,
-           (const char *)opened.payload);
+    printf("sqn %u, frame of %zu bytes, %zu cipher calls, opened: ", p.sqn, sealed.answer.a, sealed.calls);
+    if (p.from_reader) show(frame, sealed.answer.a, opened);
+    else printf("%.*s\n", (int)opened.len, (const char *)opened.payload);
     malstrink_clear(work, sizeof work);
 }
 
@@ -65,6 +77,10 @@ int main(void)
     /* A connection begins with 0; the handshake's two commands went out with 1 and 2. Each new
        command takes the next number, which after 3 is 1, and a reply has its command's. */
     static const char *const said[3] = { "open cabinet 12", "lamp on shelf 3", "close cabinet 12" };
+    /* a badge of 26 bits, read at reader 0 in format 1; an acknowledgement, which has no bytes; the
+       badge again */
+    static const uint8_t badge[8] = { 0, 1, 26, 0, 0x8F, 0xA3, 0x40, 0x40 };
+    static const uint8_t codes[3] = { MALSTRINK_BODY_RAW, MALSTRINK_BODY_ACK, MALSTRINK_BODY_RAW };
     uint8_t sqn = 2;
     for (int i = 0; i < 3; i++) {
         MalstrinkAnswer next = malstrink_sqn_next(sqn);
@@ -72,9 +88,9 @@ int main(void)
         sqn = (uint8_t)next.a;
         /* address, sequence number, from the reader?, encrypted?, code */
         const MalstrinkToSeal command = { 5, sqn, false, true, 0x80 };
-        const MalstrinkToSeal reply = { 0x85, sqn, true, true, 0x90 };
-        carry(&controller, &reader, command, said[i]);
-        carry(&reader, &controller, reply, "done");
+        const MalstrinkToSeal reply = { 0x85, sqn, true, true, codes[i] };
+        carry(&controller, &reader, command, (const uint8_t *)said[i], strlen(said[i]));
+        carry(&reader, &controller, reply, badge, codes[i] == MALSTRINK_BODY_ACK ? 0 : sizeof badge);
     }
 
     malstrink_session_wipe_in(&controller);

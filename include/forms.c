@@ -381,6 +381,7 @@ int main(int count, char **words)
     must(sizeof(MalstrinkAnswer) == 24 && sizeof(MalstrinkSession) == 106 && sizeof(MalstrinkStepped) == 136, "sizes");
     must(sizeof(MalstrinkSteppedBlock) == 152 && sizeof(MalstrinkSealed) == 144 && sizeof(MalstrinkUnsealed) == 168, "sizes");
     must(sizeof(MalstrinkParsed) == 96 && sizeof(MalstrinkPacket) == 6 && sizeof(MalstrinkToSeal) == 5 && sizeof(MalstrinkMac) == 5, "sizes");
+    must(sizeof(MalstrinkBody) == 80 && sizeof(MalstrinkTriple) == 4, "sizes");
 
     s = secure_c;
     malstrink_session_new_in(&s, test_scbk);

@@ -1,4 +1,5 @@
-/* Malstrink for C and C++: OSDP frames, the secure handshake at both ends, sealing and opening.
+/* Malstrink for C and C++: OSDP frames, the bodies of replies, the secure handshake at both ends,
+   sealing and opening.
 
    Link libmalstrink.a, which include/archive proves and makes, for x86-64 and for aarch64
    (docs/RULES.md has what each call does). The archive needs memcpy and memset and nothing else; it
@@ -149,6 +150,43 @@ typedef struct {
 MalstrinkBlock malstrink_block(const uint8_t *bytes, size_t n);
 MalstrinkHead malstrink_head(const uint8_t *bytes, size_t n);
 MalstrinkParsed malstrink_parse(const uint8_t *bytes, size_t n);
+
+/* ---- bodies of replies (docs/RULES.md, 13): a payload read whole, or refused by 19. code is the
+   frame's, as malstrink_parse tells it. payload is the frame's data where that is not sealed, and
+   else what unsealing shows: the data of a sealed frame, as it stands there, is no body */
+enum {
+    MALSTRINK_BODY_ACK = 0x40, /* no bytes */
+    MALSTRINK_BODY_NAK = 0x41, /* rest: what follows the error byte, as it stands */
+    MALSTRINK_BODY_PDID = 0x45, /* no rest */
+    MALSTRINK_BODY_PDCAP = 0x46, /* rest: the triples, of three bytes each, one or more */
+    MALSTRINK_BODY_LSTATR = 0x48, /* no rest */
+    MALSTRINK_BODY_RAW = 0x50, /* rest: the bits, in exactly the bytes that they need */
+    MALSTRINK_BODY_KEYPAD = 0x53 /* rest: the digits, count of them */
+};
+/* What a kind does not have is 0; all 0 beside a refusal. The rest is what follows the numbers, from
+   payload[rest_start] on, rest_len bytes, which is to the payload's end. number is the bits of a RAW
+   of 1 to 64 as they stand, the first one highest; what is spare in the last byte is no part of it. */
+typedef struct {
+    MalstrinkAnswer answer;
+    uint8_t code;
+    uint8_t error; /* NAK */
+    uint8_t vendor[3], model, version; /* PDID, with the four that follow */
+    uint32_t serial;
+    uint8_t firmware_major, firmware_minor, firmware_build;
+    uint8_t tamper, power; /* LSTATR */
+    uint8_t reader; /* RAW and KEYPAD */
+    uint8_t format; /* RAW */
+    uint16_t bits; /* RAW */
+    uint8_t count; /* KEYPAD */
+    size_t rest_start, rest_len;
+    bool has_number; /* RAW of 1 to 64 bits */
+    uint64_t number;
+} MalstrinkBody;
+MalstrinkBody malstrink_read_body(uint8_t code, const uint8_t *payload, size_t n);
+/* triple i of a PDCAP, counted from 0; rest_len / 3 of them are there. The payload is read anew: where
+   it is refused, is of another code or has no such triple, all is 0 */
+typedef struct { bool there; uint8_t function, compliance, number; } MalstrinkTriple;
+MalstrinkTriple malstrink_triple(uint8_t code, const uint8_t *payload, size_t n, size_t i);
 
 /* ---- building; block is the control byte's flag, block_type 0 where there is no block. a: how
    many bytes were written. out overlaps neither block nor data */

@@ -16,7 +16,7 @@ static union {
     MalstrinkAnswer answer; MalstrinkControl control; MalstrinkBlock block; MalstrinkHead head; MalstrinkParsed parsed; MalstrinkKeys keys;
     MalstrinkBytes16 bytes16; MalstrinkChain chain; MalstrinkCiphered ciphered; MalstrinkSession session; MalstrinkStepped stepped;
     MalstrinkSteppedBlock stepped_block; MalstrinkBlockAnswer block_answer; MalstrinkKeysAnswer keys_answer; MalstrinkSealed sealed;
-    MalstrinkUnsealed unsealed; MalstrinkOpened opened; uint8_t u8; uint16_t u16;
+    MalstrinkUnsealed unsealed; MalstrinkOpened opened; MalstrinkBody body; MalstrinkTriple triple; uint8_t u8; uint16_t u16;
 } to;
 static size_t at_length;
 static const MalstrinkSession *const all[] = { &fresh_c, &fresh_r, &challenged_c, &challenged_r, &cryptogrammed, &secure_c, &secure_r };
@@ -26,6 +26,14 @@ static MalstrinkToSeal asked;
 static const uint8_t *seen, *ciphered = data;
 static size_t seen_n;
 static uint8_t good[208], good_session[208];
+/* a body of each kind, and one that is refused */
+static const struct { uint8_t code; size_t n; uint8_t payload[12]; } bodies[] = {
+    { MALSTRINK_BODY_ACK, 0, { 0 } }, { MALSTRINK_BODY_NAK, 3, { 1, 2, 3 } }, { MALSTRINK_BODY_PDID, 12, { 1, 2, 3 } },
+    { MALSTRINK_BODY_PDCAP, 6, { 1, 2, 3 } }, { MALSTRINK_BODY_LSTATR, 2, { 1, 1 } }, { MALSTRINK_BODY_RAW, 12, { 0, 1, 64, 0, 1 } },
+    { MALSTRINK_BODY_KEYPAD, 4, { 0, 2, 1, 2 } }, { 0x60, 4, { 0 } }
+};
+enum { BODIES = sizeof bodies / sizeof *bodies };
+static size_t at_body;
 
 #define CALL(name, field, call) static void NOINLINE call_##name(void) { to.field = call; }
 #define STEP(name, call) static void NOINLINE call_##name(void) { call; }
@@ -41,6 +49,8 @@ CALL(scs_type, answer, malstrink_scs_type(0x17))
 CALL(block, block, malstrink_block(seen, seen_n))
 CALL(head, head, malstrink_head(seen, seen_n))
 CALL(parse, parsed, malstrink_parse(seen, seen_n))
+CALL(read_body, body, malstrink_read_body(bodies[at_body].code, bodies[at_body].payload, bodies[at_body].n))
+CALL(triple, triple, malstrink_triple(bodies[at_body].code, bodies[at_body].payload, bodies[at_body].n, at_length))
 static MalstrinkPacket packet = { 5, 1, true, true, MALSTRINK_BLOCK_15, 0x60 };
 CALL(build, answer, malstrink_build(packet, data, 3, data, lengths[at_length], mac_given, out, sizeof out))
 CALL(build_body, answer, malstrink_build_body(packet, data, 3, data, lengths[at_length], out, sizeof out))
@@ -139,6 +149,7 @@ static size_t deepest(void (*call)(void))
                 ciphered = k % 3 == 0 ? good : k % 3 == 1 ? good_session : data;
                 seen = frames[k];
                 seen_n = sizes[k];
+                at_body = (at_length * 6 + k) % BODIES;
                 found = most(found, once(call));
             }
     }
@@ -156,7 +167,8 @@ static size_t frame_of(bool from_reader, bool encrypt, uint8_t *to_frame, size_t
 #define ROW(name) { #name, call_##name }
 static const struct { const char *name; void (*call)(void); } rows[] = {
     ROW(checksum8), ROW(crc16), ROW(address_pd), ROW(address_reply), ROW(sqn_new), ROW(sqn_next), ROW(control_decode), ROW(control_encode),
-    ROW(scs_type), ROW(block), ROW(head), ROW(parse), ROW(build), ROW(build_body), ROW(aes_encrypt), ROW(aes_decrypt), ROW(derive),
+    ROW(scs_type), ROW(block), ROW(head), ROW(parse), ROW(read_body), ROW(triple), ROW(build), ROW(build_body), ROW(aes_encrypt),
+    ROW(aes_decrypt), ROW(derive),
     ROW(client_cryptogram), ROW(server_cryptogram), ROW(initial_rmac), ROW(diversify_scbk_legacy), ROW(pad_mac), ROW(pad_data), ROW(unpad_data),
     ROW(complement_icv), ROW(cbc_mac), ROW(encrypt_data), ROW(decrypt_data), ROW(session_new), ROW(session_new_reader), ROW(session_wipe),
     ROW(session_challenge), ROW(session_receive_ccrypt), ROW(session_server_cryptogram), ROW(session_initial_rmac), ROW(session_confirm_rmac_i),
@@ -189,7 +201,7 @@ int main(void)
     for (size_t i = 0; i < sizeof rows / sizeof *rows; i++) {
         const size_t bytes = deepest(rows[i].call);
         printf("malstrink_%s %zu\n", rows[i].name, bytes);
-        if (i >= 47 && bytes > cleared) {
+        if (i >= 49 && bytes > cleared) {
             fprintf(stderr, "stack: %s takes %zu bytes, and malstrink_clear_stack clears %zu\n", rows[i].name, bytes, cleared);
             return 1;
         }
