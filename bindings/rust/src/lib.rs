@@ -20,7 +20,7 @@
 //! # Both ends of a channel
 //!
 //! ```
-//! use malstrink::{Address, Direction, Message, Session, Sqn};
+//! use malstrink::{parse, Address, Direction, Message, Reply, Session, Sqn};
 //!
 //! let scbk = *b"key of cabinet 7";
 //! let mut controller = Session::new(&scbk);
@@ -46,6 +46,19 @@
 //! let frame = controller.seal(&message, &mut line).answer?;
 //! assert_eq!(frame.len(), 30);
 //! assert_eq!(reader.unseal(frame, &mut work).answer?, b"a red lamp");
+//!
+//! // And a reply: a badge of 26 bits, at reader 0, in format 1.
+//! let message = Message {
+//!     addr: Address::reply(5)?,
+//!     direction: Direction::FromReader,
+//!     code: 0x50,
+//!     data: &[0, 1, 26, 0, 0x8F, 0xA3, 0x40, 0x40],
+//!     ..message
+//! };
+//! let frame = reader.seal(&message, &mut line).answer?;
+//! let code = parse(frame)?.packet.code;
+//! let reply = Reply::read(code, controller.unseal(frame, &mut work).answer?)?;
+//! assert_eq!(reply.badge(), Some(37_653_761));
 //! # Ok::<(), malstrink::Refusal>(())
 //! ```
 #![no_std]
@@ -61,6 +74,7 @@ mod lent;
 mod raw;
 mod records;
 mod refusal;
+mod reply;
 mod session;
 mod wipe;
 
@@ -74,4 +88,5 @@ pub use keys::{
     SessionKeys,
 };
 pub use refusal::Refusal;
+pub use reply::{Reply, Triple, Triples, TriplesIter};
 pub use session::{payload, Direction, End, Message, Place, Session, State};

@@ -20,6 +20,8 @@ extern "C" {
     pub fn malstrink_block(bytes: *const u8, n: usize) -> Block;
     pub fn malstrink_head(bytes: *const u8, n: usize) -> Head;
     pub fn malstrink_parse(bytes: *const u8, n: usize) -> Parsed;
+    pub fn malstrink_read_body(code: u8, payload: *const u8, n: usize) -> Body;
+    pub fn malstrink_triple(code: u8, payload: *const u8, n: usize, i: usize) -> Triple;
     pub fn malstrink_build(
         p: Packet,
         block: *const u8,

@@ -76,6 +76,40 @@ pub struct Parsed {
 }
 
 #[repr(C)]
+#[derive(Clone, Copy, Debug, PartialEq)]
+pub struct Body {
+    pub answer: Answer,
+    pub code: u8,
+    pub error: u8,
+    pub vendor: [u8; 3],
+    pub model: u8,
+    pub version: u8,
+    pub serial: u32,
+    pub firmware_major: u8,
+    pub firmware_minor: u8,
+    pub firmware_build: u8,
+    pub tamper: u8,
+    pub power: u8,
+    pub reader: u8,
+    pub format: u8,
+    pub bits: u16,
+    pub count: u8,
+    pub rest_start: usize,
+    pub rest_len: usize,
+    pub has_number: bool,
+    pub number: u64,
+}
+
+#[repr(C)]
+#[derive(Clone, Copy, Debug, PartialEq)]
+pub struct Triple {
+    pub there: bool,
+    pub function: u8,
+    pub compliance: u8,
+    pub number: u8,
+}
+
+#[repr(C)]
 #[derive(Clone, Copy)]
 pub struct Packet {
     pub addr: u8,
