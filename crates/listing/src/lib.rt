@@ -1,5 +1,7 @@
 // Lists the frames of a capture on standard output; a refusal, and a write that fails, are also said on standard error (docs/RULES.md, 11).
 ghost use mathlib.Core.Path.{_≡_};
+ghost use lib.ListN.{drop};
+ghost use Rattle.packet_parse.specs.Frame.{parseOf, parsed};
 ghost use Rattle.listing.specs.Listed.{listed};
 use libc::STDERR_FILENO;
 use libc::STDOUT_FILENO;
@@ -21,16 +23,20 @@ fn put_last(n: usize) -> bool {
     io::print_decimal(STDOUT_FILENO, n as u64) && io::write_all(STDOUT_FILENO, b"\n")
 }
 
-// Why a write failed is in errno, so it is said at once. Answers whether it did not.
-fn written(ok: bool) -> bool {
+// Why a write failed is in errno, which a write that succeeds leaves alone; so it is said at once. Answers whether it did not.
+fn written(program: &[u8], ok: bool) -> bool {
     if !ok {
-        os::fail(b"framelist: cannot write");
+        say(program);
+        os::fail(b": cannot write");
     }
     ok
 }
 
 fn put_title() -> bool {
-    written(io::write_all(STDOUT_FILENO, b"at len addr sqn code data\n"))
+    written(
+        b"framelist",
+        io::write_all(STDOUT_FILENO, b"at len addr sqn code data\n"),
+    )
 }
 
 // Once a write has failed, nothing more is written. So it is with a refusal's line.
@@ -39,6 +45,7 @@ fn put_line(ok: bool, at: usize, p: ParsedPacket) -> bool {
         return false;
     }
     written(
+        b"framelist",
         put(at)
             && put(p.len)
             && put(p.addr.as_byte() as usize)
@@ -48,11 +55,14 @@ fn put_line(ok: bool, at: usize, p: ParsedPacket) -> bool {
     )
 }
 
-fn put_refused(ok: bool, at: usize, e: Refusal) -> bool {
+fn put_refused(program: &[u8], ok: bool, at: usize, e: Refusal) -> bool {
     if !ok {
         return false;
     }
-    written(put(at) && io::write_all(STDOUT_FILENO, b"refused ") && put_last(e.number() as usize))
+    written(
+        program,
+        put(at) && io::write_all(STDOUT_FILENO, b"refused ") && put_last(e.number() as usize),
+    )
 }
 
 // Why, in words, for the refusals that reading a frame has.
@@ -73,14 +83,37 @@ fn say_why(e: Refusal) {
     }
 }
 
-fn say_refused(at: usize, e: Refusal) {
-    say(b"framelist: refused at ");
+fn say_refused(program: &[u8], at: usize, e: Refusal) {
+    say(program);
+    say(b": refused at ");
     io::print_decimal(STDERR_FILENO, at as u64);
     say(b" by ");
     io::print_decimal(STDERR_FILENO, e.number() as u64);
     say(b": ");
     say_why(e);
     say(b"\n");
+}
+
+// The bytes from a place on; past the end there are none.
+fn bytes_from(capture: &[u8], at: usize) -> &[u8]
+    ensures { λ r. ⌜ now r ≡ drop at (now (capture .entry)) ⌝ }
+{
+    if capture.len() < at {
+        return &capture[..0];
+    }
+    &capture[at..]
+}
+
+// The frame at a place of a capture. A refusal is the last line of the program's listing, and is said in words.
+pub fn frame_at(program: &[u8], ok: bool, capture: &[u8], at: usize) -> Parsed
+    ensures { λ r. ⌜ parsed r ≡ parseOf (drop at (now (capture .entry))) ⌝ }
+{
+    let answer = packet_parse::parse(bytes_from(capture, at));
+    if let Parsed::Refused(e) = answer {
+        put_refused(program, ok, at, e);
+        say_refused(program, at, e);
+    }
+    answer
 }
 
 // Answers how many bytes were frames, up to the end or the first refusal.
@@ -90,16 +123,12 @@ pub fn list(capture: &[u8]) -> usize
     let mut ok = put_title();
     let mut at = 0;
     while at < capture.len() {
-        match packet_parse::parse(&capture[at..]) {
+        match frame_at(b"framelist", ok, capture, at) {
             Parsed::Good(p) => {
                 ok = put_line(ok, at, p);
                 at += p.len;
             }
-            Parsed::Refused(e) => {
-                put_refused(ok, at, e);
-                say_refused(at, e);
-                return at;
-            }
+            Parsed::Refused(_) => return at,
         }
     }
     at
