@@ -1,0 +1,2 @@
+pub mod InClear
+pub mod Tallied

@@ -1,0 +1,9 @@
+// Lists the replies in the clear of a capture on standard output. What is refused, how many replies are sealed, and a write that fails,
+// are said on standard error (docs/RULES.md, 14).
+mod carried;
+mod counting;
+mod walk;
+mod words;
+
+pub use counting::Tally;
+pub use walk::list;
