@@ -1,19 +1,16 @@
 -- The bits of bytes as one number: summed up byte by byte, and the spare bits at the end taken off by a division.
 -- Assumes nothing.
 use mathlib.Core.Path.{_≡_, refl, sym, ap, ap₂, _∙_}
-use mathlib.Core.Bool.{_&&_, cond}
 use mathlib.Core.List.{List, [], _∷_, _++_}
 use mathlib.Core.Option.{none, some}
 use Prim.Native.Nat.{ℕ, zero, suc, _+_, _*_, _-_, _/_, _%_, _^_, _≤_, _<_}
 use native.Mathlib.Omega.{arith}
 use native.Mathlib.Nat.{pow-suc, div-one, div-div-eq-div-mul}
 use borrow.Author.Tests.{eq-eqb, ne-eqb, le-leb, lt-leb}
-use lib.Dec.{leb, eqb}
-use lib.ListN.{length, take, drop, getD, length-append, length-drop, take-append-drop, drop-of-length-le}
-use Rattle.laws.specs.Bytes.{Bytes}
+use lib.ListN.{length, take, drop, getD, length-drop, take-append-drop, drop-of-length-le}
 use Rattle.laws.proofs.Lists.{drop-next}
 use Rattle.body_message.specs.Message.{bytesFor}
-use Rattle.body_message.specs.Badge.{bitsOf, allBits, binary, badgeIn}
+use Rattle.body_message.specs.Lookup.{bitsOf, allBits, binary, badgeIn}
 
 -- ---- byte by byte
 

@@ -3,9 +3,9 @@
 use mathlib.Core.Path.{_≡_, refl, sym, ap, ap₂, _∙_}
 use mathlib.Core.List.{List, [], _∷_, _++_}
 use mathlib.Core.Option.{none, some}
-use Prim.Native.Nat.{ℕ, zero, suc, _+_, _*_, _/_, _%_, _≤_, _<_}
+use Prim.Native.Nat.{ℕ, zero, suc, _+_, _*_, _≤_, _<_}
 use native.Mathlib.Omega.{arith}
-use native.Mathlib.Nat.{add-comm, add-assoc, zero-mul, suc-mul}
+use native.Mathlib.Nat.{add-comm, zero-mul, suc-mul}
 use lib.ListN.{length, take, drop, getD, getElem?, length-append, length-drop, take-append-drop}
 use lib.Seq.{take-add, drop-drop, length-take-le}
 use Rattle.laws.specs.Bytes.{Bytes}
@@ -13,7 +13,7 @@ use Rattle.laws.proofs.ByteLists.{bytes-take, bytes-drop}
 use Rattle.laws.proofs.Lists.{drop-next, nothing}
 use Rattle.slices.specs.Number.{lowFirst, lowNumber}
 use Rattle.slices.proofs.NumberLaws.{low-length, written-read}
-use Rattle.body_message.specs.Fields.{spanOf, numbersIn, numbersLaid, rowsOf, rowsLaid}
+use Rattle.body_message.specs.Fields.{spanOf, numbersIn, numbersLaid, recordsOf, recordsLaid}
 
 -- ---- read and laid again
 
@@ -59,34 +59,34 @@ values-in (w ∷ ws) s i h =
     ap₂ (λ (x : ℕ) (l : List ℕ). x ∷ l) (value-in w s i (omega arith))
     (ap (numbersIn ws) (drop-drop w i s) ∙ values-in ws s (i + w) (omega arith))
 
--- ---- rows
+-- ---- records
 
 one-more : (n k : ℕ) → suc n * k ≡ k + n * k
 one-more n k = suc-mul n k ∙ add-comm (n * k) k
 
 module _ {R : Type 0} (ws : List ℕ) (made : List ℕ → R) (numbers : R → List ℕ) where
-  pub laid-rows : ((v : List ℕ) → length v ≡ length ws → numbers (made v) ≡ v)
-      → (n : ℕ) (t : List ℕ) → Bytes t → length t ≡ n * spanOf ws → rowsLaid ws numbers (rowsOf ws made n t) ≡ t
-  unfolding rowsOf rowsLaid
-  laid-rows e zero t b h = nothing t (h ∙ zero-mul (spanOf ws))
-  laid-rows e (suc n) t b h =
+  pub laid-records : ((v : List ℕ) → length v ≡ length ws → numbers (made v) ≡ v)
+      → (n : ℕ) (t : List ℕ) → Bytes t → length t ≡ n * spanOf ws → recordsLaid ws numbers (recordsOf ws made n t) ≡ t
+  unfolding recordsOf recordsLaid
+  laid-records e zero t b h = nothing t (h ∙ zero-mul (spanOf ws))
+  laid-records e (suc n) t b h =
       let k : length t ≡ spanOf ws + n * spanOf ws = h ∙ one-more n (spanOf ws) in
       ap₂ (λ (x y : List ℕ). x ++ y)
       (ap (numbersLaid ws) (e (numbersIn ws t) (length-numbers ws t)) ∙ laid-numbers ws t b (omega arith))
-      (laid-rows e n (drop (spanOf ws) t) (bytes-drop (spanOf ws) t b) (length-drop (spanOf ws) t ∙ omega arith))
+      (laid-records e n (drop (spanOf ws) t) (bytes-drop (spanOf ws) t b) (length-drop (spanOf ws) t ∙ omega arith))
       ∙ take-append-drop (spanOf ws) t
 
-  -- row i of n, and none after the last
-  pub row-in : (n i : ℕ) (s : List ℕ) → i < n → getElem? (rowsOf ws made n s) i ≡ some (made (numbersIn ws (drop (i * spanOf ws) s)))
-  unfolding rowsOf
-  row-in zero i s h = absurd (omega arith)
-  row-in (suc n) zero s h = ap (λ (j : ℕ). some (made (numbersIn ws (drop j s)))) (sym (zero-mul (spanOf ws)))
-  row-in (suc n) (suc i) s h =
-      row-in n i (drop (spanOf ws) s) (omega arith)
+  -- record i of n, and none after the last
+  pub record-in : (n i : ℕ) (s : List ℕ) → i < n → getElem? (recordsOf ws made n s) i ≡ some (made (numbersIn ws (drop (i * spanOf ws) s)))
+  unfolding recordsOf
+  record-in zero i s h = absurd (omega arith)
+  record-in (suc n) zero s h = ap (λ (j : ℕ). some (made (numbersIn ws (drop j s)))) (sym (zero-mul (spanOf ws)))
+  record-in (suc n) (suc i) s h =
+      record-in n i (drop (spanOf ws) s) (omega arith)
       ∙ ap (λ (l : List ℕ). some (made (numbersIn ws l))) (drop-drop (i * spanOf ws) (spanOf ws) s ∙ ap (λ (j : ℕ). drop j s) (sym (one-more i (spanOf ws))))
 
-  pub row-out : (n i : ℕ) (s : List ℕ) → n ≤ i → getElem? (rowsOf ws made n s) i ≡ none
-  unfolding rowsOf
-  row-out zero i s h = refl
-  row-out (suc n) zero s h = absurd (omega arith)
-  row-out (suc n) (suc i) s h = row-out n i (drop (spanOf ws) s) (omega arith)
+  pub record-out : (n i : ℕ) (s : List ℕ) → n ≤ i → getElem? (recordsOf ws made n s) i ≡ none
+  unfolding recordsOf
+  record-out zero i s h = refl
+  record-out (suc n) zero s h = absurd (omega arith)
+  record-out (suc n) (suc i) s h = record-out n i (drop (spanOf ws) s) (omega arith)

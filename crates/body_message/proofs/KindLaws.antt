@@ -3,19 +3,19 @@
 use mathlib.Core.Path.{_≡_, refl, sym, ap, _∙_}
 use mathlib.Core.Bool.{Bool, true, false, _&&_}
 use mathlib.Core.List.{List, [], _∷_}
-use Prim.Native.Nat.{ℕ, _*_, _/_, _%_, _≤_}
+use Prim.Native.Nat.{ℕ, _/_, _%_}
 use native.Mathlib.Omega.{arith}
 use borrow.Author.Tests.{eqb-true}
 use lib.Dec.{eqb, leb}
-use lib.ListN.{length, getD}
-use Rattle.laws.specs.Answer.{Answer, Answer.given, Answer.refused, choose}
+use lib.ListN.{length}
+use Rattle.laws.specs.Answer.{Answer.given, choose}
 use Rattle.laws.specs.Bytes.{Bytes}
 use Rattle.laws.proofs.Answers.{given-inj, given-refused}
 use Rattle.laws.proofs.Lists.{nothing}
 use Rattle.laws.proofs.Listed.{all-listed}
-use Rattle.body_message.specs.Message.{Message, Kind, Kind.ACK, Kind.NAK, Kind.PDID, Kind.PDCAP, Kind.LSTATR, Kind.RAW, Kind.KEYPAD, kinds, code, widths, records, follows, messageOf, messageKind, messageNumbers, messageRest, tripleWidths, tripleOf, tripleNumbers}
+use Rattle.body_message.specs.Message.{Kind, Kind.ACK, Kind.NAK, Kind.PDID, Kind.PDCAP, Kind.LSTATR, Kind.RAW, Kind.KEYPAD, kinds, code, widths, wholeRecords, follows, messageOf, messageKind, messageNumbers, messageRest, tripleWidths, tripleOf, tripleNumbers}
 use Rattle.body_message.specs.Body.{kindNamed}
-use Rattle.body_message.proofs.FieldLaws.{laid-rows}
+use Rattle.body_message.proofs.FieldLaws.{laid-records}
 
 -- ---- named by its code
 
@@ -66,7 +66,7 @@ pub and-true : (a b : Bool) → a && b ≡ true → (a ≡ true) × (b ≡ true)
 and-true true b e = (refl, e)
 and-true false b e = (e, cc)
 
-no-part : (w n : ℕ) → records w n ≡ true → n % w ≡ 0
+no-part : (w n : ℕ) → wholeRecords w n ≡ true → n % w ≡ 0
 no-part w n h = eqb-true (n % w) 0 (and-true (leb 1 n) (eqb (n % w) 0) h .1)
 
 pub rest-back : (k : Kind) (vs t : List ℕ) → Bytes t → follows k vs (length t) ≡ true → messageRest (messageOf k vs t) ≡ t
@@ -74,7 +74,7 @@ rest-back ACK vs t b h = no-bytes t h
 rest-back NAK vs t b h = refl
 rest-back PDID vs t b h = no-bytes t h
 rest-back PDCAP vs t b h =
-    laid-rows tripleWidths tripleOf tripleNumbers (λ v e. all-listed v 3 e) (length t / 3) t b (omega (arith, no-part 3 (length t) h))
+    laid-records tripleWidths tripleOf tripleNumbers (λ v e. all-listed v 3 e) (length t / 3) t b (omega (arith, no-part 3 (length t) h))
 rest-back LSTATR vs t b h = no-bytes t h
 rest-back RAW vs t b h = refl
 rest-back KEYPAD vs t b h = refl

@@ -4,18 +4,18 @@ use mathlib.Core.Path.{_≡_, refl, sym, ap, ap₂, _∙_}
 use mathlib.Core.Bool.{Bool, true, false, not, _&&_}
 use mathlib.Core.List.{List, [], _∷_, _++_}
 use Prim.Native.Nat.{ℕ, _+_, _-_, _≤_}
-use native.Mathlib.Omega.{arith}
 use borrow.Author.Tests.{leb-true, le-leb, not-false}
 use lib.Dec.{leb}
 use lib.ListN.{length, drop, length-drop, take-append-drop}
-use Rattle.laws.specs.Answer.{Answer, Answer.given, Answer.refused, refuseIf, andThen}
+use lib.Seq.{drop-at}
+use Rattle.laws.specs.Answer.{Answer.given, Answer.refused}
 use Rattle.laws.specs.Bytes.{Bytes}
 use Rattle.laws.proofs.Answers.{Holds, holds-then, holds-refuse, holds-given, given-inj, refuse-true, refuse-false}
 use Rattle.laws.proofs.ByteLists.{bytes-drop}
 use Rattle.body_message.specs.Fields.{spanOf, numbersLaid}
 use Rattle.body_message.specs.Message.{Message, Kind, kinds, code, widths, follows, messageOf, messageKind, messageNumbers, messageRest}
 use Rattle.body_message.specs.Body.{kindNamed, bodyNumbers, bodyRest, shaped, readAs, readOf, messageCode, messageBytes}
-use Rattle.body_message.proofs.FieldLaws.{length-numbers, laid-numbers}
+use Rattle.body_message.proofs.FieldLaws.{length-numbers, length-laid, laid-numbers}
 use Rattle.body_message.proofs.KindLaws.{kind-code, kind-back, numbers-back, rest-back, and-true}
 
 -- ---- by the tests
@@ -70,6 +70,13 @@ says c s b =
 -- The reading of an accepted body holds its every byte, and its code.
 pub read-whole : (c : ℕ) (s : List ℕ) (m : Message) → Bytes s → readOf c s ≡ given m → (messageBytes m ≡ s) × (messageCode m ≡ c)
 read-whole c s m b e = holds-given (Says c s) (readOf c s) m (says c s b) e
+
+-- What comes after the numbers, of a message's bytes, is its rest.
+pub after-numbers : (m : Message) → drop (spanOf (widths (messageKind m))) (messageBytes m) ≡ messageRest m
+unfolding messageBytes
+after-numbers m =
+    let ws : List ℕ = widths (messageKind m) in
+    drop-at (numbersLaid ws (messageNumbers m)) (messageRest m) (spanOf ws) (length-laid ws (messageNumbers m))
 
 -- Two messages that are read and have the same code and bytes are equal.
 pub one-message : (c d : ℕ) (s t : List ℕ) (m n : Message) → Bytes s → Bytes t → readOf c s ≡ given m → readOf d t ≡ given n

@@ -6,10 +6,10 @@ use mathlib.Core.List.{List, [], _∷_, map}
 use mathlib.Core.Option.{none, some}
 use Prim.Native.Nat.{ℕ}
 use Rattle.laws.specs.Answer.{Answer, Answer.given, Answer.refused, refuseIf, choose, andThen}
-use Rattle.body_message.specs.Fields.{rowsOf, rowsLaid}
+use Rattle.body_message.specs.Fields.{recordsOf, recordsLaid}
 use Rattle.body_message.specs.Message.{Message, Message.ack, Message.nak, Message.pdid, Message.pdcap, Message.lstatr, Message.raw, Message.keypad}
 use Rattle.body_message.specs.Body.{kindNamed, readAs, readOf, messageCode, messageBytes}
-use Rattle.body_message.specs.Badge.{allBits, binary, badgeIn, messageBadge}
+use Rattle.body_message.specs.Lookup.{messageTriple, allBits, binary, badgeIn, messageBadge}
 
 -- a code and its bytes
 abbrev pub CodedBody : Type 0
@@ -55,11 +55,11 @@ abbrev readCoded : CodedBody → Answer Message
 readCoded b = readOf (b .0) (b .1)
 
 pub worked-read : map readCoded workedBodies ≡ map (λ (m : Message). given m) workedMessages
-unfolding workedMessages workedBodies refuseIf choose andThen kindNamed readOf readAs rowsOf
+unfolding workedMessages workedBodies refuseIf choose andThen kindNamed readOf readAs recordsOf
 worked-read = refl
 
 pub worked-bytes : map (λ (m : Message). (messageCode m, messageBytes m)) workedMessages ≡ workedBodies
-unfolding workedMessages workedBodies messageBytes rowsLaid
+unfolding workedMessages workedBodies messageBytes recordsLaid
 worked-bytes = refl
 
 -- one byte more and one fewer, no triple and a part of one, bits counted high byte first, a count that is not that of the digits, and codes
@@ -88,7 +88,7 @@ workedRefused =
     ∷ []
 
 pub worked-refused : map readCoded workedRefused ≡ map (λ (b : CodedBody). refused 19 (b .0 ∷ [])) workedRefused
-unfolding workedRefused refuseIf choose andThen kindNamed readOf readAs rowsOf
+unfolding workedRefused refuseIf choose andThen kindNamed readOf readAs recordsOf
 worked-refused = refl
 
 -- 26 bits, whatever is spare; 1 bit; 64; none; 65; bytes that are not those which the bits need; and another body
@@ -107,3 +107,9 @@ pub worked-badges :
     ≡ some 37653761 ∷ some 37653761 ∷ some 1 ∷ some 18446744073709551615 ∷ none ∷ none ∷ none ∷ none ∷ []
 unfolding allBits binary badgeIn
 worked-badges = refl
+
+-- the two triples of a PDCAP, and none behind them
+pub worked-triples :
+    map (messageTriple (pdcap (record { function = 1; compliance = 2; number = 3 } ∷ record { function = 4; compliance = 5; number = 6 } ∷ []))) (0 ∷ 1 ∷ 2 ∷ [])
+    ≡ some (record { function = 1; compliance = 2; number = 3 }) ∷ some (record { function = 4; compliance = 5; number = 6 }) ∷ none ∷ []
+worked-triples = refl

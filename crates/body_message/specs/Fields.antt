@@ -1,4 +1,4 @@
--- Numbers that stand one behind the other in bytes, each low byte first, and rows of one layout (docs/RULES.md, 13.1).
+-- Numbers that stand one behind the other in bytes, each low byte first, and records of one layout (docs/RULES.md, 13.1).
 -- Assumes nothing.
 use Prim.Native.Nat.{ℕ, zero, suc, _+_}
 use mathlib.Core.List.{List, [], _∷_, _++_}
@@ -20,12 +20,12 @@ abbrev pub numbersLaid : List ℕ → List ℕ → List ℕ
 numbersLaid [] vs = []
 numbersLaid (w ∷ ws) vs = lowFirst w (getD vs 0 0) ++ numbersLaid ws (drop 1 vs)
 
--- n rows of one layout, each made of its numbers
-unfoldable pub rowsOf : {R : Type 0} → List ℕ → (List ℕ → R) → ℕ → List ℕ → List R
-rowsOf ws made zero s = []
-rowsOf ws made (suc n) s = made (numbersIn ws s) ∷ rowsOf ws made n (drop (spanOf ws) s)
+-- n records of one layout, each made of its numbers
+unfoldable pub recordsOf : {R : Type 0} → List ℕ → (List ℕ → R) → ℕ → List ℕ → List R
+recordsOf ws made zero s = []
+recordsOf ws made (suc n) s = made (numbersIn ws s) ∷ recordsOf ws made n (drop (spanOf ws) s)
 
--- rows, each laid as its numbers
-unfoldable pub rowsLaid : {R : Type 0} → List ℕ → (R → List ℕ) → List R → List ℕ
-rowsLaid ws numbers [] = []
-rowsLaid ws numbers (r ∷ rs) = numbersLaid ws (numbers r) ++ rowsLaid ws numbers rs
+-- records, each laid as its numbers
+unfoldable pub recordsLaid : {R : Type 0} → List ℕ → (R → List ℕ) → List R → List ℕ
+recordsLaid ws numbers [] = []
+recordsLaid ws numbers (r ∷ rs) = numbersLaid ws (numbers r) ++ recordsLaid ws numbers rs

@@ -1,4 +1,4 @@
 pub mod Fields
 pub mod Message
 pub mod Body
-pub mod Badge
+pub mod Lookup

@@ -5,7 +5,7 @@ use mathlib.Core.Bool.{Bool, true, _&&_}
 use mathlib.Core.List.{List, [], _∷_}
 use lib.Dec.{leb, eqb}
 use lib.ListN.{length, getD}
-use Rattle.body_message.specs.Fields.{rowsOf, rowsLaid}
+use Rattle.body_message.specs.Fields.{spanOf, recordsOf, recordsLaid}
 
 -- ---- the messages: named numbers, and what has no fixed length as a list
 
@@ -59,8 +59,8 @@ abbrev pub tripleWidths : List ℕ
 tripleWidths = 1 ∷ 1 ∷ 1 ∷ []
 
 -- one record or more, of w bytes each, and no part of one
-abbrev pub records : ℕ → ℕ → Bool
-records w n = leb 1 n && eqb (n % w) 0
+abbrev pub wholeRecords : ℕ → ℕ → Bool
+wholeRecords w n = leb 1 n && eqb (n % w) 0
 
 -- the bytes that so many bits need: an eighth of them, rounded up
 abbrev pub bytesFor : ℕ → ℕ
@@ -71,7 +71,7 @@ abbrev pub follows : Kind → List ℕ → ℕ → Bool
 follows ACK vs n = eqb n 0
 follows NAK vs n = true
 follows PDID vs n = eqb n 0
-follows PDCAP vs n = records 3 n
+follows PDCAP vs n = wholeRecords (spanOf tripleWidths) n
 follows LSTATR vs n = eqb n 0
 follows RAW vs n = eqb n (bytesFor (getD vs 2 0))
 follows KEYPAD vs n = eqb n (getD vs 1 0)
@@ -85,7 +85,7 @@ abbrev pub messageOf : Kind → List ℕ → List ℕ → Message
 messageOf ACK vs t = ack
 messageOf NAK vs t = nak (getD vs 0 0) t
 messageOf PDID vs t = pdid (getD vs 0 0) (getD vs 1 0) (getD vs 2 0) (getD vs 3 0) (getD vs 4 0) (getD vs 5 0) (getD vs 6 0) (getD vs 7 0) (getD vs 8 0)
-messageOf PDCAP vs t = pdcap (rowsOf tripleWidths tripleOf (length t / 3) t)
+messageOf PDCAP vs t = pdcap (recordsOf tripleWidths tripleOf (length t / spanOf tripleWidths) t)
 messageOf LSTATR vs t = lstatr (getD vs 0 0) (getD vs 1 0)
 messageOf RAW vs t = raw (getD vs 0 0) (getD vs 1 0) (getD vs 2 0) t
 messageOf KEYPAD vs t = keypad (getD vs 0 0) (getD vs 1 0) t
@@ -118,7 +118,7 @@ abbrev pub messageRest : Message → List ℕ
 messageRest ack = []
 messageRest (nak error rest) = rest
 messageRest (pdid vendor1 vendor2 vendor3 model version serial major minor build) = []
-messageRest (pdcap triples) = rowsLaid tripleWidths tripleNumbers triples
+messageRest (pdcap triples) = recordsLaid tripleWidths tripleNumbers triples
 messageRest (lstatr tamper power) = []
 messageRest (raw reader format bits bytes) = bytes
 messageRest (keypad reader count digits) = digits

@@ -1,24 +1,24 @@
 -- What reading a body of each kind gives, by its tests: with numbers by the bytes at their places, as the code has them.
 -- Assumes nothing.
 use mathlib.Core.Path.{_≡_, refl, sym, ap, _∙_}
-use mathlib.Core.Bool.{Bool, true, false, _&&_}
+use mathlib.Core.Bool.{Bool, true, false}
 use mathlib.Core.List.{List, [], _∷_}
-use Prim.Native.Nat.{ℕ, _+_, _*_, _-_, _/_, _%_, _≤_, _<_}
+use Prim.Native.Nat.{ℕ, _+_, _-_, _/_, _%_, _≤_, _<_}
 use native.Mathlib.Omega.{arith}
 use native.Mathlib.Nat.{sub-zero, add-zero, add-assoc}
 use borrow.Author.Tests.{eq-eqb, ne-eqb, le-leb, lt-leb}
-use lib.Dec.{leb, eqb}
-use lib.ListN.{length, getD, getElem?, take, drop, length-drop, drop-of-length-le}
+use lib.Dec.{eqb}
+use lib.ListN.{length, getD, getElem?, drop, length-drop, drop-of-length-le}
 use lib.Seq.{take-all}
 use Rattle.laws.specs.Answer.{Answer.given, Answer.refused}
 use Rattle.slices.specs.Number.{lowNumber}
 use Rattle.slices.specs.Place.{partOf}
 use Rattle.slices.proofs.PlaceLaws.{part-in}
 use Rattle.refusal.specs.declared.Refusal.{Refusal}
-use Rattle.body_message.specs.Fields.{spanOf, numbersIn, rowsOf}
-use Rattle.body_message.specs.Message.{Message, Message.nak, Message.raw, Message.keypad, Kind, Kind.NAK, Kind.PDID, Kind.RAW, Kind.KEYPAD, Triple, bytesFor, tripleOf, tripleWidths, kinds, code, widths, records, follows, messageOf}
+use Rattle.body_message.specs.Fields.{spanOf, numbersIn, recordsOf}
+use Rattle.body_message.specs.Message.{Message, Message.nak, Message.raw, Message.keypad, Kind, Kind.NAK, Kind.PDID, Kind.RAW, Kind.KEYPAD, Triple, bytesFor, tripleOf, tripleWidths, kinds, code, widths, wholeRecords, follows, messageOf}
 use Rattle.body_message.specs.Body.{bodyNumbers, bodyRest, readAs, readOf}
-use Rattle.body_message.specs.Badge.{badgeIn, messageBadge, messageTriple}
+use Rattle.body_message.specs.Lookup.{badgeIn, messageBadge, messageTriple}
 use Rattle.body_read.specs.Reading.{restStart, restLength, messageIn, readAnswer}
 use Rattle.body_read.specs.declared.body.Body.{Body}
 use Rattle.body_read.specs.declared.body.Body.the-variants.{Nak, PdId, PdCap, Raw, Keypad}
@@ -64,12 +64,12 @@ module _ (k : Kind) (fixed : (vs : List ℕ) (n : ℕ) → follows k vs n ≡ eq
 
 -- ---- records alone
 
-module _ (k : Kind) (w : ℕ) (bare : widths k ≡ []) (counted : (vs : List ℕ) (n : ℕ) → follows k vs n ≡ records w n) (s : List ℕ) where
+module _ (k : Kind) (w : ℕ) (bare : widths k ≡ []) (counted : (vs : List ℕ) (n : ℕ) → follows k vs n ≡ wholeRecords w n) (s : List ℕ) where
   all-rest : length s - spanOf (widths k) ≡ length s
   all-rest = ap (λ (ws : List ℕ). length s - spanOf ws) bare ∙ sub-zero (length s)
 
-  counted-by : (b : Bool) → records w (length s) ≡ b → follows k (valuesAt (widths k) s 0) (length s - spanOf (widths k)) ≡ b
-  counted-by b h = counted (valuesAt (widths k) s 0) (length s - spanOf (widths k)) ∙ ap (records w) all-rest ∙ h
+  counted-by : (b : Bool) → wholeRecords w (length s) ≡ b → follows k (valuesAt (widths k) s 0) (length s - spanOf (widths k)) ≡ b
+  counted-by b h = counted (valuesAt (widths k) s 0) (length s - spanOf (widths k)) ∙ ap (wholeRecords w) all-rest ∙ h
 
   pub records-none : length s < 1 → refused 19 (code k ∷ []) ≡ readAs k s
   records-none h = unfit-bad k s (counted-by false (rw (lt-leb 1 (length s) h)))
@@ -129,8 +129,8 @@ raw-number b reader format bits s t e f = ap (badgeIn bits) f ∙ rw e
 
 -- ---- the triples of a payload, and the one at j, byte by byte
 
-pub triples-all : (s : List ℕ) (i : ℕ) → messageTriple (messageIn PdCap s) i ≡ getElem? (rowsOf tripleWidths tripleOf (length s / 3) s) i
-triples-all s i = ap (λ (t : List ℕ). getElem? (rowsOf tripleWidths tripleOf (length t / 3) t) i) (part-rest s 0 (length s) (omega arith) (omega arith))
+pub triples-all : (s : List ℕ) (i : ℕ) → messageTriple (messageIn PdCap s) i ≡ getElem? (recordsOf tripleWidths tripleOf (length s / 3) s) i
+triples-all s i = ap (λ (t : List ℕ). getElem? (recordsOf tripleWidths tripleOf (length t / 3) t) i) (part-rest s 0 (length s) (omega arith) (omega arith))
 
 abbrev pub tripleFrom : List ℕ → ℕ → Triple
 tripleFrom s j = record { function = getD s j 0; compliance = getD s (j + 1) 0; number = getD s (j + 2) 0 }
@@ -138,5 +138,5 @@ tripleFrom s j = record { function = getD s j 0; compliance = getD s (j + 1) 0; 
 by-bytes : (s : List ℕ) (j : ℕ) → tripleFrom s j ≡ tripleOf (valuesAt tripleWidths s j)
 by-bytes s j = simp (add-zero, add-assoc)
 
-pub triple-row : (s : List ℕ) (j : ℕ) → j + 3 ≤ length s → tripleFrom s j ≡ tripleOf (numbersIn tripleWidths (drop j s))
-triple-row s j h = by-bytes s j ∙ ap tripleOf (sym (values-in tripleWidths s j h))
+pub triple-record : (s : List ℕ) (j : ℕ) → j + 3 ≤ length s → tripleFrom s j ≡ tripleOf (numbersIn tripleWidths (drop j s))
+triple-record s j h = by-bytes s j ∙ ap tripleOf (sym (values-in tripleWidths s j h))

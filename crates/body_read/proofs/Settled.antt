@@ -1,20 +1,24 @@
 -- The promises settle the answers: any two that one allows are equal. And the claim over all bodies, of what a caller of `read` holds.
 -- Assumes nothing.
 use mathlib.Core.Path.{_≡_, refl, sym, ap, _∙_}
-use mathlib.Core.List.{List}
+use mathlib.Core.Bool.{Bool, true, false, cond}
+use mathlib.Core.List.{List, []}
 use mathlib.Core.Option.{Option, none, some}
 use Prim.Native.Nat.{ℕ}
-use lib.ListN.{getD}
+use native.Mathlib.Omega.{arith}
+use lib.ListN.{length, getD, take, drop}
 use Rattle.laws.specs.Answer.{Answer, Answer.given, Answer.refused}
 use Rattle.laws.specs.Bytes.{Bytes}
 use Rattle.laws.proofs.Answers.{one-reading}
 use Rattle.refusal.proofs.OneReading.{named, told-back}
+use Rattle.slices.specs.Place.{runsPast, partOf}
 use Rattle.body_message.specs.Message as message
-use Rattle.body_message.specs.Message.{Message, Kind, Kind.ACK, Kind.NAK, Kind.PDID, Kind.PDCAP, Kind.LSTATR, Kind.RAW, Kind.KEYPAD, messageKind, messageNumbers}
+use Rattle.body_message.specs.Message.{Message, Kind, Kind.ACK, Kind.NAK, Kind.PDID, Kind.PDCAP, Kind.LSTATR, Kind.RAW, Kind.KEYPAD, messageKind, messageNumbers, messageRest}
 use Rattle.body_message.specs.Body.{readOf, messageCode, messageBytes}
-use Rattle.body_message.proofs.OneMessage.{read-whole}
-use Rattle.body_read.specs.Reading.{messageIn, readAnswer}
+use Rattle.body_message.proofs.OneMessage.{read-whole, after-numbers}
+use Rattle.body_read.specs.Reading.{restStart, restLength, messageIn, readAnswer}
 use Rattle.body_read.specs.Lookup.{tripleAnswer, badgeAnswer}
+use Rattle.body_read.proofs.Cases.{part-rest}
 use Rattle.body_read.specs.declared.body.Body.{Body}
 use Rattle.body_read.specs.declared.body.Body.the-variants.{Ack, Nak, PdId, PdCap, LStatR, Raw, Keypad}
 use Rattle.body_read.specs.declared.body.ReadAnswer.{ReadAnswer}
@@ -59,6 +63,26 @@ pub reading-whole : (c : ℕ) (s : List ℕ) (b : Body) → Bytes s → readAnsw
 reading-whole c s b bytes e = read-whole c s (messageIn b s) bytes (sym e)
 
 -- ---- the lookups
+
+no-bytes-there : (s : List ℕ) (at : ℕ) → partOf s at 0 ≡ []
+unfolding partOf
+no-bytes-there s at = by (runsPast (length s) at 0)
+  where
+    by : (x : Bool) → cond x [] (take 0 (drop at s)) ≡ []
+    by true = refl
+    by false = refl
+
+-- What `rest` shows of a payload that was read is the rest of its message: no byte of it is left out, and none is added.
+pub rest-shown : (c : ℕ) (s : List ℕ) (b : Body) → Bytes s → readAnswer (ReadAnswer.Good b) s ≡ readOf c s
+    → partOf s (restStart b) (restLength b (length s)) ≡ messageRest (messageIn b s)
+rest-shown c s Ack h e = no-bytes-there s 0
+rest-shown c s (Nak error) h e = refl
+rest-shown c s (PdId vendor1 vendor2 vendor3 model version serial major minor build) h e = no-bytes-there s 12
+rest-shown c s PdCap h e =
+    part-rest s 0 (length s) (omega arith) (omega arith) ∙ sym (reading-whole c s PdCap h e .0) ∙ after-numbers (messageIn PdCap s)
+rest-shown c s (LStatR tamper power) h e = no-bytes-there s 2
+rest-shown c s (Raw reader format bits) h e = refl
+rest-shown c s (Keypad reader count) h e = refl
 
 abbrev tripleBack : Option message.Triple → TripleAnswer
 tripleBack (some x) = TripleAnswer.Of (record { function = x .function; compliance = x .compliance; number = x .number })

@@ -1,13 +1,13 @@
 -- A number summed up byte by byte, the first one highest: what one byte more makes of it, and that eight bytes fit 64 bits.
 -- Assumes nothing.
-use mathlib.Core.Path.{_≡_, sym, ap, _∙_, subst}
+use mathlib.Core.Path.{_≡_, ap, _∙_, subst}
 use mathlib.Core.List.{List}
 use Prim.Native.Nat.{ℕ, _+_, _*_, _^_, _<_}
 use native.Mathlib.Omega.{arith}
 use native.Mathlib.Nat.{lt-of-lt-of-le, pow-le-pow-right, zero-lt-suc, pow-suc}
 use native.Mathlib.Numerals.{add-one}
 use lib.ListN.{length, drop, getD}
-use Rattle.body_message.specs.Badge.{allBits, binary}
+use Rattle.body_message.specs.Lookup.{allBits, binary}
 use Rattle.body_message.proofs.BadgeLaws.{bits-more}
 
 -- seven bytes leave room for one more

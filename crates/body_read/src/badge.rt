@@ -2,7 +2,7 @@
 ghost use mathlib.Core.Path.{_≡_};
 ghost use Prim.Native.Nat.{_<_, _≤_};
 ghost use lib.ListN.{length};
-ghost use Rattle.body_message.specs.Badge.{allBits, binary, badgeIn, messageBadge};
+ghost use Rattle.body_message.specs.Lookup.{allBits, binary, badgeIn, messageBadge};
 ghost use Rattle.body_read.specs.Reading.{messageIn};
 ghost use Rattle.body_read.specs.Lookup.{badgeAnswer};
 use super::body::Body;

@@ -4,7 +4,7 @@ ghost use Prim.Native.Nat.{_-_};
 ghost use lib.ListN.{length};
 ghost use Rattle.slices.specs.Stretch.{stretchOf};
 ghost use Rattle.slices.specs.Place.{partSeen};
-ghost use Rattle.body_message.specs.Badge.{messageTriple};
+ghost use Rattle.body_message.specs.Lookup.{messageTriple};
 ghost use Rattle.body_read.specs.Reading.{restStart, restLength, messageIn};
 ghost use Rattle.body_read.specs.Lookup.{tripleAnswer};
 use super::body::Body;

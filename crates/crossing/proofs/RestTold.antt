@@ -2,26 +2,18 @@
 -- Assumes nothing.
 use Prim.Native.Nat.{ℕ, _-_}
 use mathlib.Core.Path.{_≡_, sym, ap, _∙_}
-use mathlib.Core.List.{List, _++_}
+use mathlib.Core.List.{List}
 use native.Mathlib.Omega.{arith}
 use lib.ListN.{length, take, drop, length-drop}
-use lib.Seq.{take-all, drop-at}
+use lib.Seq.{take-all}
 use Rattle.laws.specs.Answer.{Answer.given}
 use Rattle.laws.specs.Bytes.{Bytes}
-use Rattle.body_message.specs.Fields.{spanOf, numbersLaid}
-use Rattle.body_message.specs.Message.{Message, widths, messageKind, messageNumbers, messageRest}
-use Rattle.body_message.specs.Body.{readOf, messageBytes}
-use Rattle.body_message.proofs.FieldLaws.{length-laid}
-use Rattle.body_message.proofs.OneMessage.{read-whole}
+use Rattle.body_message.specs.Fields.{spanOf}
+use Rattle.body_message.specs.Message.{Message, widths, messageKind, messageRest}
+use Rattle.body_message.specs.Body.{readOf}
+use Rattle.body_message.proofs.OneMessage.{read-whole, after-numbers}
 use Rattle.crossing.specs.Bodies.{cBody}
 use Rattle.crossing.specs.declared.body.CBody.{CBody}
-
--- what of a message's bytes comes after its numbers
-after-numbers : (m : Message) → drop (spanOf (widths (messageKind m))) (messageBytes m) ≡ messageRest m
-unfolding messageBytes
-after-numbers m =
-    let ws = widths (messageKind m) in
-    drop-at (numbersLaid ws (messageNumbers m)) (messageRest m) (spanOf ws) (length-laid ws (messageNumbers m))
 
 module _ (c : ℕ) (s : List ℕ) (m : Message) (b : Bytes s) (e : readOf c s ≡ given m) where
   abbrev told : CBody

@@ -10,7 +10,7 @@ use Rattle.laws.specs.Answer.{Answer, Answer.given, Answer.refused}
 use Rattle.body_message.specs.Fields.{spanOf}
 use Rattle.body_message.specs.Message.{Triple, Message, Kind, Kind.NAK, Kind.PDID, Kind.LSTATR, Kind.RAW, Kind.KEYPAD, code, widths, messageKind, messageNumbers}
 use Rattle.body_message.specs.Body.{messageCode}
-use Rattle.body_message.specs.Badge.{messageTriple, messageBadge}
+use Rattle.body_message.specs.Lookup.{messageTriple, messageBadge}
 use Rattle.crossing.specs.Answers.{cGiven, cRefused}
 use Rattle.crossing.specs.declared.answer.CAnswer.{CAnswer}
 use Rattle.crossing.specs.declared.body.CBody.{CBody}

@@ -1,5 +1,5 @@
-// Lists the replies in the clear of a capture on standard output. What is refused, how many replies are sealed, and a write that fails,
-// are said on standard error (docs/RULES.md, 14).
+// Lists the replies in the clear of a capture on standard output; a frame that is refused, and a write that fails, are also said on
+// standard error (docs/RULES.md, 14).
 mod carried;
 mod counting;
 mod walk;

@@ -7,11 +7,10 @@ use super::counting::Tally;
 use super::counting::counted;
 use super::words::put_reply;
 use super::words::put_title;
-use super::words::say_counts;
 use packet_parse::Parsed;
 
-// Lists, and counts what it passes.
-fn walk(capture: &[u8]) -> Tally
+// Lists, and answers what was passed, up to the end or the first refused frame.
+pub fn list(capture: &[u8]) -> Tally
     ensures { λ r. ⌜ r ≡ tallyOf (framesIn (now (capture .entry))) ⌝ }
 {
     let mut ok = put_title();
@@ -33,14 +32,5 @@ fn walk(capture: &[u8]) -> Tally
             Parsed::Refused(_) => return t,
         }
     }
-    t
-}
-
-// Answers what was passed, up to the end or the first refused frame. What the listing has no reading of, or no line, is said at its end.
-pub fn list(capture: &[u8]) -> Tally
-    ensures { λ r. ⌜ r ≡ tallyOf (framesIn (now (capture .entry))) ⌝ }
-{
-    let t = walk(capture);
-    say_counts(t);
     t
 }

@@ -1,7 +1,6 @@
-// What is printed of a reply. Each call that writes answers whether all of it was written.
-ghost use Prim.Native.Nat.{_<_};
+// What is printed of a reply. A call that writes is told whether every write so far went well, and answers the same after its own: once
+// one has failed, nothing more is written.
 use super::carried::Reply;
-use super::counting::Tally;
 use body_read::BadgeAnswer;
 use body_read::Body;
 use body_read::ReadAnswer;
@@ -9,99 +8,72 @@ use body_read::TripleAnswer;
 use body_read::badge_number;
 use body_read::rest;
 use body_read::triple_at;
-use libc::STDERR_FILENO;
 use libc::STDOUT_FILENO;
+use output::put;
+use output::put_byte;
+use output::put_bytes;
+use output::put_number;
 use packet_parse::ParsedPacket;
 
-fn put(text: &[u8]) -> bool {
-    io::write_all(STDOUT_FILENO, text)
-}
-
-// What a number is, and the number.
-fn put_number(name: &[u8], n: u64) -> bool {
-    put(name) && io::print_decimal(STDOUT_FILENO, n)
-}
-
-// The same of a number that is a byte.
-fn put_small(name: &[u8], n: u8) -> bool {
-    put_number(name, n as u64)
-}
-
-fn digit(n: u8) -> u8
-    requires { ⌜ n < 16 ⌝ }
-{
-    if n < 10 { b'0' + n } else { b'A' + (n - 10) }
-}
-
-// A byte as it stands on the line: a space and two digits.
-fn put_byte(b: u8) -> bool {
-    let text = [b' ', digit(b / 16), digit(b % 16)];
-    put(&text)
-}
-
-fn put_bytes(bytes: &[u8]) -> bool {
-    let mut i = 0;
-    while i < bytes.len() {
-        if !put_byte(bytes[i]) {
-            return false;
-        }
-        i += 1;
-    }
-    true
-}
-
-fn put_triple(triple: TripleAnswer) -> bool {
+fn put_triple(ok: bool, triple: TripleAnswer) -> bool {
     match triple {
         TripleAnswer::Of(t) => {
-            put_small(b" function ", t.function)
-                && put_small(b" compliance ", t.compliance)
-                && put_small(b" number ", t.number)
+            let function = put_number(ok, b" function ", t.function as u64);
+            let compliance = put_number(function, b" compliance ", t.compliance as u64);
+            put_number(compliance, b" number ", t.number as u64)
         }
-        TripleAnswer::NoTriple => true,
+        TripleAnswer::NoTriple => ok,
     }
 }
 
-fn put_triples(body: Body, payload: &[u8]) -> bool {
-    let n = payload.len() / 3;
-    let mut i = 0;
-    while i < n {
-        if !put_triple(triple_at(body, payload, i)) {
-            return false;
-        }
-        i += 1;
+fn put_triples(ok: bool, body: Body, payload: &[u8]) -> bool {
+    let mut ok = ok;
+    for i in 0..payload.len() / 3 {
+        ok = put_triple(ok, triple_at(body, payload, i));
     }
-    true
+    ok
 }
 
-fn put_vendor(first: u8, second: u8, third: u8) -> bool {
-    put(b" vendor") && put_byte(first) && put_byte(second) && put_byte(third)
+// Who made the device, and what it is.
+fn put_device(ok: bool, vendor: [u8; 3], model: u8, version: u8, serial: u32) -> bool {
+    let made = put_bytes(put(ok, b" vendor"), &vendor);
+    let of_model = put_number(made, b" model ", model as u64);
+    let of_version = put_number(of_model, b" version ", version as u64);
+    put_number(of_version, b" serial ", serial as u64)
 }
 
-fn put_firmware(major: u8, minor: u8, build: u8) -> bool {
-    put_small(b" firmware ", major) && put_small(b" ", minor) && put_small(b" ", build)
+fn put_firmware(ok: bool, major: u8, minor: u8, build: u8) -> bool {
+    let of_major = put_number(ok, b" firmware ", major as u64);
+    let of_minor = put_number(of_major, b" ", minor as u64);
+    put_number(of_minor, b" ", build as u64)
 }
 
 // The badge as one number, where its bits are one.
-fn put_badge(badge: BadgeAnswer) -> bool {
+fn put_badge(ok: bool, badge: BadgeAnswer) -> bool {
     match badge {
-        BadgeAnswer::Number(n) => put_number(b" number ", n),
-        BadgeAnswer::NoNumber => true,
+        BadgeAnswer::Number(n) => put_number(ok, b" number ", n),
+        BadgeAnswer::NoNumber => ok,
     }
 }
 
-fn put_raw(body: Body, payload: &[u8], reader: u8, format: u8, bits: u16) -> bool {
-    put_small(b" reader ", reader)
-        && put_small(b" format ", format)
-        && put_number(b" bits ", bits as u64)
-        && put_bytes(rest(body, payload))
-        && put_badge(badge_number(body, payload))
+fn put_raw(ok: bool, body: Body, payload: &[u8], reader: u8, format: u8, bits: u16) -> bool {
+    let of_reader = put_number(ok, b" reader ", reader as u64);
+    let of_format = put_number(of_reader, b" format ", format as u64);
+    let counted = put_number(of_format, b" bits ", bits as u64);
+    let shown = put_bytes(counted, rest(body, payload));
+    put_badge(shown, badge_number(body, payload))
 }
 
 // What a body says, in the table's order.
-fn put_body(body: Body, payload: &[u8]) -> bool {
+fn put_body(ok: bool, body: Body, payload: &[u8]) -> bool {
     match body {
-        Body::Ack => true,
-        Body::Nak { error } => put_small(b" error ", error) && put_bytes(rest(body, payload)),
+        Body::Ack => ok,
+        Body::Nak { error } => {
+            put_bytes(
+                put_number(ok, b" error ", error as u64),
+                rest(body, payload),
+            )
+        }
         Body::PdId {
             vendor1,
             vendor2,
@@ -113,47 +85,49 @@ fn put_body(body: Body, payload: &[u8]) -> bool {
             minor,
             build,
         } => {
-            put_vendor(vendor1, vendor2, vendor3)
-                && put_small(b" model ", model)
-                && put_small(b" version ", version)
-                && put_number(b" serial ", serial as u64)
-                && put_firmware(major, minor, build)
+            let vendor = [vendor1, vendor2, vendor3];
+            let device = put_device(ok, vendor, model, version, serial);
+            put_firmware(device, major, minor, build)
         }
-        Body::PdCap => put_triples(body, payload),
+        Body::PdCap => put_triples(ok, body, payload),
         Body::LStatR { tamper, power } => {
-            put_small(b" tamper ", tamper) && put_small(b" power ", power)
+            put_number(
+                put_number(ok, b" tamper ", tamper as u64),
+                b" power ",
+                power as u64,
+            )
         }
         Body::Raw {
             reader,
             format,
             bits,
-        } => put_raw(body, payload, reader, format, bits),
+        } => put_raw(ok, body, payload, reader, format, bits),
         Body::Keypad { reader, count } => {
-            put_small(b" reader ", reader)
-                && put_small(b" digits ", count)
-                && put_bytes(rest(body, payload))
+            let of_reader = put_number(ok, b" reader ", reader as u64);
+            let counted = put_number(of_reader, b" digits ", count as u64);
+            put_bytes(counted, rest(body, payload))
         }
     }
 }
 
 // A code that is not listed has no name, and stands as the byte that it is.
-fn put_name(code: u8) -> bool {
+fn put_name(ok: bool, code: u8) -> bool {
     match code {
-        0x40 => put(b" ACK"),
-        0x41 => put(b" NAK"),
-        0x45 => put(b" PDID"),
-        0x46 => put(b" PDCAP"),
-        0x48 => put(b" LSTATR"),
-        0x50 => put(b" RAW"),
-        0x53 => put(b" KEYPAD"),
-        _ => put_byte(code),
+        0x40 => put(ok, b" ACK"),
+        0x41 => put(ok, b" NAK"),
+        0x45 => put(ok, b" PDID"),
+        0x46 => put(ok, b" PDCAP"),
+        0x48 => put(ok, b" LSTATR"),
+        0x50 => put(ok, b" RAW"),
+        0x53 => put(ok, b" KEYPAD"),
+        _ => put_byte(ok, code),
     }
 }
 
-fn put_answer(answer: ReadAnswer, payload: &[u8]) -> bool {
+fn put_answer(ok: bool, answer: ReadAnswer, payload: &[u8]) -> bool {
     match answer {
-        ReadAnswer::Good(body) => put_body(body, payload),
-        ReadAnswer::Refused(e) => put_small(b" refused ", e.number()),
+        ReadAnswer::Good(body) => put_body(ok, body, payload),
+        ReadAnswer::Refused(e) => put_number(ok, b" refused ", e.number() as u64),
     }
 }
 
@@ -166,20 +140,18 @@ fn written(ok: bool) -> bool {
 }
 
 pub(crate) fn put_title() -> bool {
-    written(put(b"at addr reply\n"))
+    written(put(true, b"at addr reply\n"))
 }
 
 fn put_line(at: usize, p: ParsedPacket, payload: &[u8], answer: ReadAnswer) -> bool {
-    written(
-        io::print_decimal(STDOUT_FILENO, at as u64)
-            && put_small(b" ", p.addr.as_byte())
-            && put_name(p.code)
-            && put_answer(answer, payload)
-            && put(b"\n"),
-    )
+    let placed = io::print_decimal(STDOUT_FILENO, at as u64);
+    let addressed = put_number(placed, b" ", p.addr.as_byte() as u64);
+    let named = put_name(addressed, p.code);
+    let read = put_answer(named, answer, payload);
+    written(put(read, b"\n"))
 }
 
-// The line of a reply in the clear. Once a write has failed, nothing more is written.
+// The line of a reply in the clear.
 pub(crate) fn put_reply(
     ok: bool,
     at: usize,
@@ -194,29 +166,5 @@ pub(crate) fn put_reply(
         Reply::NoReply => true,
         Reply::Sealed => true,
         Reply::Clear(answer) => put_line(at, p, payload, answer),
-    }
-}
-
-fn say(text: &[u8]) {
-    io::write_all(STDERR_FILENO, text);
-}
-
-fn say_number(n: usize) {
-    io::print_decimal(STDERR_FILENO, n as u64);
-}
-
-// How many bodies have no reading, and how many replies no line: one who lists a sealed capture is not to take it for an empty one.
-pub(crate) fn say_counts(t: Tally) {
-    if 0 < t.refused {
-        say(b"replies: refused ");
-        say_number(t.refused);
-        say(b" of ");
-        say_number(t.replies);
-        say(b" bodies by 19: the bytes do not fit the code, or the code is not listed\n");
-    }
-    if 0 < t.sealed {
-        say(b"replies: sealed replies passed over: ");
-        say_number(t.sealed);
-        say(b"\n");
     }
 }

@@ -5,7 +5,7 @@ use Prim.Native.Nat.{_-_, _^_, _≤_, _<_}
 use borrow.Author.Needs.{needs}
 use native.Mathlib.Omega.{arith}
 use lib.ListN.{length, drop}
-use Rattle.body_message.specs.Badge.{allBits, binary}
+use Rattle.body_message.specs.Lookup.{allBits, binary}
 use Rattle.body_message.proofs.BadgeLaws.{bits-end}
 use Rattle.body_read.proofs.Summed.{room, below-more, summed-more}
 use Rattle.body_read.proofs.badge.bits_as_number.Statement.{statement}

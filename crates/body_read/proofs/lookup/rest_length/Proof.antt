@@ -1,8 +1,6 @@
 -- What each body says of its rest.
 -- Assumes nothing.
-use mathlib.Core.Path.{sym, ap, _∙_}
 use borrow.Author.Needs.{needs}
-use Rattle.body_read.specs.Reading.{restLength}
 use Rattle.body_read.proofs.lookup.rest_length.Statement.{statement}
 use Rattle.body_read.proofs.lookup.rest_length.Tie as tie
 

@@ -1,6 +1,5 @@
 -- Only a PDCAP has triples.
 -- Assumes nothing.
-use mathlib.Core.Path.{_∙_}
 use borrow.Author.Needs.{needs}
 use Rattle.body_read.proofs.lookup.triple_at.Statement.{statement}
 use Rattle.body_read.proofs.lookup.triple_at.Tie as tie

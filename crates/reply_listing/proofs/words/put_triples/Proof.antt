@@ -6,10 +6,10 @@ use Rattle.reply_listing.proofs.words.put_triples.Statement.{statement}
 use Rattle.reply_listing.proofs.words.put_triples.Tie as tie
 
 abbrev Inv-loop : tie.InvT-loop
-Inv-loop body payload n i₀ i = i ≤ n
+Inv-loop ok body payload ok₀ i₀ end ok' i = i ≤ end
 
 abbrev μ-loop : tie.MeasureT-loop
-μ-loop body payload n i₀ i = n - i
+μ-loop ok body payload ok₀ i₀ end ok' i = end - i
 
 pub put-triples-spec : {M : Type 1} → statement M
 put-triples-spec =
@@ -20,7 +20,6 @@ put-triples-spec =
     (λ c. search needs)
     (λ c κs. search needs)
     (λ c κs. search needs)
-    (λ c. search needs)
     (λ c. search needs)
     (λ c. search needs)
     (λ c. search needs)

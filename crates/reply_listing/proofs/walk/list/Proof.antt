@@ -1,4 +1,4 @@
--- `walk` meets its contract: each turn passes a frame, which lies within what is left, and counts its reply.
+-- `list` meets its contract: each turn passes a frame, which lies within what is left, and counts its reply.
 -- Assumes nothing.
 use Prim.Native.Nat.{ℕ, _+_, _-_}
 use mathlib.Core.Path.{_≡_, sym, ap, _∙_}
@@ -17,8 +17,8 @@ use Rattle.reply_listing.specs.declared.counting.Tally.{Tally}
 use Rattle.reply_listing.specs.InClear.{replyIn}
 use Rattle.reply_listing.specs.Tallied.{tallyMore}
 use Rattle.reply_listing.proofs.TallyLaws.{CountedFrames, counted-none, counted-room, counted-more, counted-refused, counted-all, payload-part}
-use Rattle.reply_listing.proofs.walk.walk.Statement.{statement}
-use Rattle.reply_listing.proofs.walk.walk.Tie as tie
+use Rattle.reply_listing.proofs.walk.list.Statement.{statement}
+use Rattle.reply_listing.proofs.walk.list.Tie as tie
 
 abbrev Inv-loop : tie.InvT-loop
 Inv-loop capture ok₀ t₀ t8 ok t = CountedFrames capture t
@@ -94,8 +94,8 @@ returns c =
 returns-2 : tie.Need-returns-2 Inv-loop μ-loop
 returns-2 c = let l = c .before .before .loop in counted-all _ (l .t) (c .if1 .left) (l .inv)
 
-pub walk-spec : {M : Type 1} → statement M
-walk-spec =
+pub list-spec : {M : Type 1} → statement M
+list-spec =
     tie.close
     (tie.spec
     Inv-loop
