@@ -50,7 +50,8 @@ static void carry(MalstrinkSession *from, MalstrinkSession *to, MalstrinkToSeal 
     malstrink_clear(work, sizeof work);
 }
 
-int main(void)
+/* Both ends from nothing to Secure. */
+static void shake_hands(MalstrinkSession *controller, MalstrinkSession *reader)
 {
     /* A key made up for this example. It is not OSDP's published default (30 31 .. 3F), which
        everybody has: give each reader a key of its own. The random numbers are fixed here; both
@@ -60,19 +61,24 @@ int main(void)
     static const uint8_t rnd_a[8] = { 0xA0, 0xA1, 0xA2, 0xA3, 0xA4, 0xA5, 0xA6, 0xA7 };
     static const uint8_t rnd_b[8] = { 0xB0, 0xB1, 0xB2, 0xB3, 0xB4, 0xB5, 0xB6, 0xB7 };
     uint8_t scbk[16], client[16], server[16], first[16];
-    MalstrinkSession controller, reader;
 
     memcpy(scbk, made_up, 16);
-    malstrink_session_new_in(&controller, scbk);
-    malstrink_session_new_reader_in(&reader, scbk, cuid);
+    malstrink_session_new_in(controller, scbk);
+    malstrink_session_new_reader_in(reader, scbk, cuid);
     malstrink_clear(scbk, sizeof scbk);
 
-    ask(malstrink_session_challenge_in(&controller, rnd_a), "challenge");
-    ask(malstrink_session_receive_challenge_in(&reader, rnd_a, rnd_b, client), "receive_challenge");
-    ask(malstrink_session_receive_ccrypt_in(&controller, cuid, rnd_b, client), "receive_ccrypt");
-    ask(malstrink_session_server_cryptogram_in(&controller, server), "server_cryptogram");
-    ask(malstrink_session_receive_scrypt_in(&reader, server, first), "receive_scrypt");
-    ask(malstrink_session_confirm_rmac_i_in(&controller, first), "confirm_rmac_i");
+    ask(malstrink_session_challenge_in(controller, rnd_a), "challenge");
+    ask(malstrink_session_receive_challenge_in(reader, rnd_a, rnd_b, client), "receive_challenge");
+    ask(malstrink_session_receive_ccrypt_in(controller, cuid, rnd_b, client), "receive_ccrypt");
+    ask(malstrink_session_server_cryptogram_in(controller, server), "server_cryptogram");
+    ask(malstrink_session_receive_scrypt_in(reader, server, first), "receive_scrypt");
+    ask(malstrink_session_confirm_rmac_i_in(controller, first), "confirm_rmac_i");
+}
+
+int main(void)
+{
+    MalstrinkSession controller, reader;
+    shake_hands(&controller, &reader);
 
     /* A connection begins with 0; the handshake's two commands went out with 1 and 2. Each new
        command takes the next number, which after 3 is 1, and a reply has its command's. */

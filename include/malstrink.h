@@ -152,8 +152,10 @@ MalstrinkHead malstrink_head(const uint8_t *bytes, size_t n);
 MalstrinkParsed malstrink_parse(const uint8_t *bytes, size_t n);
 
 /* ---- bodies of replies (docs/RULES.md, 13): a payload read whole, or refused by 19. code is the
-   frame's, as malstrink_parse tells it. payload is the frame's data where that is not sealed, and
-   else what unsealing shows: the data of a sealed frame, as it stands there, is no body */
+   frame's, as malstrink_parse tells it. payload is what unsealing shows, or where the frame has no
+   MAC (mac_start is 0) the frame's data. The call cannot see which it is handed, and reads the data
+   of a sealed frame all the same, enciphered or not: where mac_start is not 0, unseal first. A reply
+   without a MAC may be anybody's. (The body of a frame, malstrink_build_body's, is another thing.) */
 enum {
     MALSTRINK_BODY_ACK = 0x40, /* no bytes */
     MALSTRINK_BODY_NAK = 0x41, /* rest: what follows the error byte, as it stands */
@@ -194,7 +196,7 @@ typedef struct { uint8_t addr, sqn; bool crc, block; uint8_t block_type, code; }
 typedef struct { bool given; uint8_t b0, b1, b2, b3; } MalstrinkMac;
 MalstrinkAnswer malstrink_build(MalstrinkPacket p, const uint8_t *block, size_t block_n, const uint8_t *data, size_t data_n,
                                 MalstrinkMac mac, uint8_t *MALSTRINK_RESTRICT out, size_t out_n);
-/* what a MAC is worked out over: from 53 to the end of data */
+/* what a MAC is worked out over: from 53 to the end of data; not the body of a reply, above */
 MalstrinkAnswer malstrink_build_body(MalstrinkPacket p, const uint8_t *block, size_t block_n, const uint8_t *data, size_t data_n,
                                      uint8_t *MALSTRINK_RESTRICT out, size_t out_n);
 

@@ -181,7 +181,7 @@ impl fmt::Display for Refusal {
             WrongState => f.write_str("the call is not for this state or this end of a session"),
             BlockTooLong(n) => write!(f, "block data of {n} bytes is longer than 253"),
             NoRoom { need, have } => write!(f, "the buffer has {have} bytes and {need} are needed"),
-            BadBody(code) => write!(f, "the payload is no body of code {code:02X}"),
+            BadBody(code) => write!(f, "the payload is no body of code {code:02X}, or that code is not listed"),
         }
     }
 }

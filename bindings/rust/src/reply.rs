@@ -155,7 +155,7 @@ impl<'a> Reply<'a> {
         }
     }
 
-    /// Its name, as the standard has it.
+    /// Its name (13.2).
     pub const fn name(&self) -> &'static str {
         match self {
             Reply::Ack => "ACK",
@@ -195,11 +195,11 @@ fn badge(reader: u8, format: u8, bits: u16, bytes: &[u8]) -> Option<u64> {
 }
 
 impl<'a> Parsed<'a> {
-    /// What the frame says, if it is a reply whose payload stands in the frame as it is (13). A payload that is no body of its code:
-    /// `BadBody`.
+    /// What the frame says, if it is a reply in the clear (14.2): its address has the reply flag, and it has no MAC. A payload that is
+    /// no body of its code: `BadBody`. Anybody on the line can make such a frame.
     ///
-    /// `None` where the frame is sealed, plain or encrypted: only [`crate::Session::unseal`] shows what such a frame says, and that it
-    /// is the other end's.
+    /// `None` for a command, and where the frame is sealed, plain or encrypted: only [`crate::Session::unseal`] shows what such a frame
+    /// says, and that it is the other end's.
     ///
     /// ```
     /// use malstrink::{parse, Refusal, Reply};
@@ -207,11 +207,11 @@ impl<'a> Parsed<'a> {
     /// let ack = [0x53, 0x85, 0x08, 0x00, 0x05, 0x40, 0x3F, 0xBC];
     /// assert_eq!(parse(&ack)?.reply(), Some(Ok(Reply::Ack)));
     /// let poll = [0x53, 0x05, 0x08, 0x00, 0x04, 0x60, 0xBC, 0x89];
-    /// assert_eq!(parse(&poll)?.reply(), Some(Err(Refusal::BadBody(0x60))));
+    /// assert_eq!(parse(&poll)?.reply(), None);
     /// # Ok::<(), Refusal>(())
     /// ```
     pub fn reply(&self) -> Option<Result<Reply<'a>, Refusal>> {
-        if self.mac.is_some() {
+        if !self.packet.addr.is_reply() || self.mac.is_some() {
             return None;
         }
         Some(Reply::read(self.packet.code, self.packet.data))
@@ -221,11 +221,11 @@ impl<'a> Parsed<'a> {
 /// One thing that a device can do.
 #[derive(Clone, Copy, Debug, PartialEq, Eq, Hash)]
 pub struct Triple {
-    /// The function's code.
+    /// The function.
     pub function: u8,
-    /// How far the device has it.
+    /// The compliance.
     pub compliance: u8,
-    /// How many of it.
+    /// The number.
     pub number: u8,
 }
 

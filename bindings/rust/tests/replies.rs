@@ -181,6 +181,12 @@ fn from_a_frame() {
     let data = &BADGE[..7];
     let frame = build(&Packet { data, ..packet }, None, &mut line).unwrap();
     assert_eq!(parse(frame).unwrap().reply(), Some(Err(Refusal::BadBody(0x50))));
+    // from the controller, and to every reader: the code is a reply's, and the frame is none
+    for addr in [Address::pd(5).unwrap(), Address::from_raw(0x7F)] {
+        let frame = build(&Packet { addr, ..packet }, None, &mut line).unwrap();
+        assert_eq!(parse(frame).unwrap().reply(), None);
+    }
+    let frame = build(&packet, None, &mut line).unwrap();
     let mut cut = frame.to_vec();
     cut[8] ^= 1;
     assert!(matches!(parse(&cut), Err(Refusal::BadCrc { .. })));

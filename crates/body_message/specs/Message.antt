@@ -1,4 +1,4 @@
--- What a body says, and the customer's table of bodies (docs/RULES.md, 13.2): a body more is a case more in each table here.
+-- What a body says, and the table of bodies (docs/RULES.md, 13.2): a body more is a case more in each table here.
 -- Assumes nothing.
 use Prim.Native.Nat.{ℕ, _+_, _/_, _%_}
 use mathlib.Core.Bool.{Bool, true, _&&_}

@@ -2,5 +2,5 @@ mod Ends
 pub mod Answered
 pub mod Asked
 pub mod InAndOut
-pub mod RestTold
+pub mod BodyTold
 pub mod Settled

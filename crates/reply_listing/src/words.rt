@@ -34,16 +34,21 @@ fn put_triples(ok: bool, body: Body, payload: &[u8]) -> bool {
     ok
 }
 
-// Who made the device, and what it is.
-fn put_device(ok: bool, vendor: [u8; 3], model: u8, version: u8, serial: u32) -> bool {
+fn put_pdid(
+    ok: bool,
+    vendor: [u8; 3],
+    model: u8,
+    version: u8,
+    serial: u32,
+    major: u8,
+    minor: u8,
+    build: u8,
+) -> bool {
     let made = put_bytes(put(ok, b" vendor"), &vendor);
     let of_model = put_number(made, b" model ", model as u64);
     let of_version = put_number(of_model, b" version ", version as u64);
-    put_number(of_version, b" serial ", serial as u64)
-}
-
-fn put_firmware(ok: bool, major: u8, minor: u8, build: u8) -> bool {
-    let of_major = put_number(ok, b" firmware ", major as u64);
+    let of_serial = put_number(of_version, b" serial ", serial as u64);
+    let of_major = put_number(of_serial, b" firmware ", major as u64);
     let of_minor = put_number(of_major, b" ", minor as u64);
     put_number(of_minor, b" ", build as u64)
 }
@@ -64,15 +69,19 @@ fn put_raw(ok: bool, body: Body, payload: &[u8], reader: u8, format: u8, bits: u
     put_badge(shown, badge_number(body, payload))
 }
 
+fn put_keypad(ok: bool, body: Body, payload: &[u8], reader: u8, count: u8) -> bool {
+    let of_reader = put_number(ok, b" reader ", reader as u64);
+    let counted = put_number(of_reader, b" digits ", count as u64);
+    put_bytes(counted, rest(body, payload))
+}
+
 // What a body says, in the table's order.
 fn put_body(ok: bool, body: Body, payload: &[u8]) -> bool {
     match body {
         Body::Ack => ok,
         Body::Nak { error } => {
-            put_bytes(
-                put_number(ok, b" error ", error as u64),
-                rest(body, payload),
-            )
+            let said = put_number(ok, b" error ", error as u64);
+            put_bytes(said, rest(body, payload))
         }
         Body::PdId {
             vendor1,
@@ -86,27 +95,19 @@ fn put_body(ok: bool, body: Body, payload: &[u8]) -> bool {
             build,
         } => {
             let vendor = [vendor1, vendor2, vendor3];
-            let device = put_device(ok, vendor, model, version, serial);
-            put_firmware(device, major, minor, build)
+            put_pdid(ok, vendor, model, version, serial, major, minor, build)
         }
         Body::PdCap => put_triples(ok, body, payload),
         Body::LStatR { tamper, power } => {
-            put_number(
-                put_number(ok, b" tamper ", tamper as u64),
-                b" power ",
-                power as u64,
-            )
+            let of_tamper = put_number(ok, b" tamper ", tamper as u64);
+            put_number(of_tamper, b" power ", power as u64)
         }
         Body::Raw {
             reader,
             format,
             bits,
         } => put_raw(ok, body, payload, reader, format, bits),
-        Body::Keypad { reader, count } => {
-            let of_reader = put_number(ok, b" reader ", reader as u64);
-            let counted = put_number(of_reader, b" digits ", count as u64);
-            put_bytes(counted, rest(body, payload))
-        }
+        Body::Keypad { reader, count } => put_keypad(ok, body, payload, reader, count),
     }
 }
 
@@ -121,13 +122,6 @@ fn put_name(ok: bool, code: u8) -> bool {
         0x50 => put(ok, b" RAW"),
         0x53 => put(ok, b" KEYPAD"),
         _ => put_byte(ok, code),
-    }
-}
-
-fn put_answer(ok: bool, answer: ReadAnswer, payload: &[u8]) -> bool {
-    match answer {
-        ReadAnswer::Good(body) => put_body(ok, body, payload),
-        ReadAnswer::Refused(e) => put_number(ok, b" refused ", e.number() as u64),
     }
 }
 
@@ -147,8 +141,11 @@ fn put_line(at: usize, p: ParsedPacket, payload: &[u8], answer: ReadAnswer) -> b
     let placed = io::print_decimal(STDOUT_FILENO, at as u64);
     let addressed = put_number(placed, b" ", p.addr.as_byte() as u64);
     let named = put_name(addressed, p.code);
-    let read = put_answer(named, answer, payload);
-    written(put(read, b"\n"))
+    let said = match answer {
+        ReadAnswer::Good(body) => put_body(named, body, payload),
+        ReadAnswer::Refused(e) => put_number(named, b" refused ", e.number() as u64),
+    };
+    written(put(said, b"\n"))
 }
 
 // The line of a reply in the clear.

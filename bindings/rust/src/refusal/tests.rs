@@ -76,7 +76,11 @@ fn texts() -> Vec<(Refusal, u8, &'static str)> {
             18,
             "the buffer has 23 bytes and 24 are needed",
         ),
-        (BadBody(0x50), 19, "the payload is no body of code 50"),
+        (
+            BadBody(0x50),
+            19,
+            "the payload is no body of code 50, or that code is not listed",
+        ),
     ]
 }
 
