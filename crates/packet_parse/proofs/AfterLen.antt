@@ -10,19 +10,19 @@ use lib.Dec.{ltb, eqb}
 use lib.ListN.{length, getD, take, length-append}
 use lib.Seq.{length-take-le, getD-take, take-append-le, take-take}
 use Rattle.laws.specs.Answer.{Answer, Answer.given, Answer.refused, refuseIf, andThen}
-use Rattle.laws.proofs.Answers.{holds-given, refuse-false}
+use Rattle.laws.proofs.Answers.{refuse-false}
 use Rattle.packet_head.specs.Header.{controlOf}
 use Rattle.slices.specs.Number.{lowNumber}
 use Rattle.packet_parse.specs.Frame.{Head, Fields, lenOf, headOf, frameOf, parseOf}
-use Rattle.packet_parse.proofs.HeadTold.{HeadRead, head-read, accepted-told}
+use Rattle.packet_parse.proofs.HeadTold.{head-answers, accepted-told}
 use Rattle.packet_parse.proofs.Within.{accepted-inside}
 
 -- ---- the head of five bytes or more looks at five
 
-abbrev headFrom5 : ℕ → ℕ → ℕ → ℕ → ℕ → Answer Head
+abbrev pub headFrom5 : ℕ → ℕ → ℕ → ℕ → ℕ → Answer Head
 headFrom5 a b c d e = refuseIf (not (eqb a 0x53)) 2 (a ∷ []) (andThen (controlOf e) (λ ctrl. given (record { addr = b; len = lowNumber (c ∷ d ∷ []); ctrl = ctrl })))
 
-head-of-5 : (s : List ℕ) → 5 ≤ length s → headOf s ≡ headFrom5 (getD s 0 0) (getD s 1 0) (getD s 2 0) (getD s 3 0) (getD s 4 0)
+pub head-of-5 : (s : List ℕ) → 5 ≤ length s → headOf s ≡ headFrom5 (getD s 0 0) (getD s 1 0) (getD s 2 0) (getD s 3 0) (getD s 4 0)
 unfolding headOf
 head-of-5 s h = refuse-false _ _ _ _ (le-ltb (length s) 5 h)
 
@@ -36,7 +36,7 @@ parse-of-len s l = go (headOf s) refl
         → andThen x (λ h. refuseIf (ltb (length s) (h .len)) 1 (length s ∷ h .len ∷ []) (frameOf (take (h .len) s) (h .addr) (h .ctrl)))
         ≡ andThen x (λ h. frameOf (take (lenOf s) s) (h .addr) (h .ctrl))
     go (given h) e =
-        let n : h .len ≡ lenOf s = holds-given (HeadRead s) (headOf s) h (head-read s) e .len in
+        let n : h .len ≡ lenOf s = omega (arith, head-answers s h e .len) in
         refuse-false _ _ _ _ (le-ltb (length s) (h .len) (omega arith)) ∙ ap (λ (k : ℕ). frameOf (take k s) (h .addr) (h .ctrl)) n
     go (refused n vs) e = refl
 

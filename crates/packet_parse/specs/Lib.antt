@@ -1,2 +1,3 @@
 pub mod Trailer
 pub mod Frame
+pub mod Driver
