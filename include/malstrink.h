@@ -148,7 +148,15 @@ typedef struct {
 } MalstrinkParsed;
 /* the block at the start of a frame's part from byte 5 on */
 MalstrinkBlock malstrink_block(const uint8_t *bytes, size_t n);
+/* How long the arriving frame is, told by its first five bytes: no other is looked at, and fewer are
+   refused by 1. len is LEN as it stands there, any number from 0 to 65,535: test it against your
+   room, and before you take 5 off it, since it may be less. What is refused by 2 or 3 the parse
+   refuses in the same way, whatever follows: do not wait for more */
 MalstrinkHead malstrink_head(const uint8_t *bytes, size_t n);
+/* Wait for the LEN bytes that malstrink_head tells, and parse once: fewer are refused by 1 (have,
+   LEN), and bytes behind them, or behind the head where LEN is below 5, change no answer. Never read
+   on because the parse refuses by 1: it refuses so a whole frame too, one whose block runs past its
+   end. include/driver.c has the loop */
 MalstrinkParsed malstrink_parse(const uint8_t *bytes, size_t n);
 
 /* ---- bodies of replies (docs/RULES.md, 13): a payload read whole, or refused by 19. code is the
