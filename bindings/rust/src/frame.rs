@@ -236,12 +236,25 @@ impl<'a> Block<'a> {
     }
 }
 
-/// What the first five bytes of a frame say (3.2).
+/// What the first five bytes of a frame say (3.2), among it how long the frame is that arrives.
+///
+/// A driver can rely on this:
+///
+/// - No byte but the first five is looked at.
+/// - What is refused as `BadSom` or `BadControlByte`, [`parse`] refuses in the same way, whatever follows: nothing is to be waited
+///   for.
+/// - An accepted frame shows the address, the length and the control byte that its head shows.
+/// - While fewer than `len` bytes are there, [`parse`] refuses as `Truncated { have, need: len }` and in no other way. When they
+///   are there, and the first five, its answer stays the same, whatever follows.
+///
+/// So it reads five bytes, then those up to `len`, and parses once. It must not read on because [`parse`] refuses as `Truncated`:
+/// a whole frame is refused so too, one whose block runs past its end (3.3). The crate's examples/driver.rs is a driver.
 #[derive(Clone, Copy, Debug, PartialEq, Eq, Hash)]
 pub struct Head {
     /// The address.
     pub addr: Address,
-    /// LEN, the length of the whole frame.
+    /// LEN, the length of the whole frame, as it stands there: any number from 0 to 65,535, so also one below 5, or above what the
+    /// caller has room for.
     pub len: usize,
     /// The control byte.
     pub control: ControlByte,
@@ -249,6 +262,21 @@ pub struct Head {
 
 impl Head {
     /// Looks at the first five bytes only. Refuses by `Truncated`, `BadSom` or `BadControlByte`.
+    ///
+    /// ```
+    /// use malstrink::{parse, Head};
+    /// use std::io::Read;
+    ///
+    /// let mut line = &[0x53, 0x05, 0x08, 0x00, 0x04, 0x60, 0xBC, 0x89, 0x53, 0x05][..];
+    /// let mut room = [0; 1440];
+    /// line.read_exact(&mut room[..5]).unwrap();
+    /// let len = Head::read(&room[..5]).unwrap().len;
+    /// assert!(len <= room.len()); // a longer frame is the driver's own to refuse
+    /// let more = len.saturating_sub(5); // LEN may be below 5: `parse` refuses it then
+    /// line.read_exact(&mut room[5..5 + more]).unwrap();
+    /// assert_eq!(parse(&room[..5 + more]).unwrap().packet.code, 0x60);
+    /// assert_eq!(line, [0x53, 0x05]); // the next frame is still on the line
+    /// ```
     pub fn read(bytes: &[u8]) -> Result<Head, Refusal> {
         let h = unsafe { raw::malstrink_head(bytes.as_ptr(), bytes.len()) };
         h.answer.done()?;
