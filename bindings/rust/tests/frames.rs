@@ -156,6 +156,68 @@ fn refused_reading() {
     assert_eq!(Block::read(&[1]), Err(Refusal::Truncated { have: 1, need: 2 }));
 }
 
+/// The head against the parse, on every part of some lines from their start, with every control byte, and LEN from 0 to 9 and the
+/// frame's own.
+#[test]
+fn head_and_parse() {
+    let mut out = [0; 40];
+    let sealed = build(&sealed(), Some([9, 8, 7, 6]), &mut out).unwrap();
+    let (plain, too_long) = (with_block([2, 0x11, 0x60, 0x24]), with_block([5, 0x15, 0x60, 0]));
+    let mut accepted = 0;
+    for frame in [&POLL[..], &[0x53, 5, 7, 0, 0, 0x60, 0x41], &plain, &too_long, sealed] {
+        for (len, control) in (0..10)
+            .chain([frame[2]])
+            .flat_map(|len| (0..=255).map(move |c| (len, c)))
+        {
+            let mut line = [frame, &POLL].concat();
+            (line[2], line[4]) = (len, control);
+            for n in 0..=line.len() {
+                accepted += u32::from(agree(&line, n));
+            }
+            line[0] = 0x54;
+            assert_eq!(Head::read(&line), Err(Refusal::BadSom(0x54)));
+            assert_eq!(
+                (parse(&line), parse(&line[..5])),
+                (Err(Refusal::BadSom(0x54)), Err(Refusal::BadSom(0x54)))
+            );
+        }
+    }
+    assert!(accepted > 0);
+    assert_eq!(Head::read(&[0x53, 5, 0xFE, 0xFF, 4]).map(|h| h.len), Ok(65_534));
+}
+
+/// The head and the parse of the first n bytes of a line, whose first one is 53 hex. Tells whether they were accepted.
+fn agree(line: &[u8], n: usize) -> bool {
+    let (head, parsed) = (Head::read(&line[..n]), parse(&line[..n]));
+    if n < 5 {
+        assert_eq!((head, parsed), (truncated(n, 5), truncated(n, 5)));
+        return false;
+    }
+    let (len, control) = (usize::from(line[2]), line[4]);
+    if control > 15 {
+        let refusal = Refusal::BadControlByte(control);
+        assert_eq!((head, parsed), (Err(refusal), Err(refusal)));
+        return false;
+    }
+    let head = head.unwrap();
+    assert_eq!(
+        (head.addr.as_byte(), head.len, head.control.encode()),
+        (line[1], len, control)
+    );
+    if n < len {
+        assert_eq!(parsed, truncated(n, len));
+    } else {
+        assert_eq!(parsed, parse(&line[..len.max(5)]));
+    }
+    if let Ok(p) = parsed {
+        assert_eq!(
+            (p.packet.addr, p.len, p.packet.control),
+            (head.addr, head.len, head.control)
+        );
+    }
+    parsed.is_ok()
+}
+
 fn sealed() -> Packet<'static> {
     Packet {
         addr: Address::reply(5).unwrap(),
