@@ -48,10 +48,10 @@ static Came frame_from(int line, uint8_t *room, size_t room_n, size_t *len, Mals
     size_t have = 0;
     if (!read_more(line, room, HEAD, &have)) return UNREADABLE;
     if (have == 0) return ENDED;
-    /* a head that is refused tells 0 here: nothing more is read, and the parse refuses the same way */
+    /* of a refused head LEN is 0 here: nothing more is read, and the parse refuses the same way */
     *len = malstrink_head(room, have).len;
     if (*len > room_n) return TOO_LONG;
-    /* LEN may be below 5, where LEN - 5 would be a huge number; the parse refuses such a frame by 4 */
+    /* LEN may be below 5, and LEN - 5 then a huge number; the parse refuses such a frame by 4 */
     if (*len > HEAD && !read_more(line, room, *len - HEAD, &have)) return UNREADABLE;
     *frame = malstrink_parse(room, have);
     return PARSED;

@@ -77,9 +77,9 @@ parse-of-given : (s : List ℕ) (h : Head) → headOf s ≡ given h → length s
 unfolding parseOf
 parse-of-given s h e l = then-given _ _ _ e ∙ refuse-true _ _ _ _ (lt-ltb (length s) (h .len) l)
 
-head-short : (s : List ℕ) → length s < 5 → headOf s ≡ refused 1 (length s ∷ 5 ∷ [])
+pub head-of-few : (s : List ℕ) → length s < 5 → headOf s ≡ refused 1 (length s ∷ 5 ∷ [])
 unfolding headOf
-head-short s h = refuse-true _ _ _ _ (lt-ltb (length s) 5 h)
+head-of-few s h = refuse-true _ _ _ _ (lt-ltb (length s) 5 h)
 
 pub wanted-as : (s : List ℕ) (x : Answer Head) → headOf s ≡ x → wantedOf s ≡ 5 + toRead x
 unfolding wantedOf
@@ -90,7 +90,7 @@ unfolding wantedOf
 five-wanted s = omega arith
 
 pub wanted-of-few : (s : List ℕ) → length s < 5 → wantedOf s ≡ 5
-wanted-of-few s h = wanted-as s (refused 1 (length s ∷ 5 ∷ [])) (head-short s h)
+wanted-of-few s h = wanted-as s (refused 1 (length s ∷ 5 ∷ [])) (head-of-few s h)
 
 -- While fewer bytes are there than are wanted, the parse refuses by 1, with both numbers, and by nothing else.
 pub parse-waits : (s : List ℕ) → length s < wantedOf s → parseOf s ≡ refused 1 (length s ∷ wantedOf s ∷ [])
@@ -105,7 +105,7 @@ parse-waits s h = go (headOf s) refl
     go (refused n vs) e =
         let w = wanted-as s (refused n vs) e in
         let five : 5 ≡ wantedOf s = omega arith in
-        parse-of-refused s 1 (length s ∷ 5 ∷ []) (head-short s (omega arith)) ∙ ap (λ (k : ℕ). refused 1 (length s ∷ k ∷ [])) five
+        parse-of-refused s 1 (length s ∷ 5 ∷ []) (head-of-few s (omega arith)) ∙ ap (λ (k : ℕ). refused 1 (length s ∷ k ∷ [])) five
 
 -- Once as many are there, neither `head` nor the parse changes, whatever follows.
 pub parse-decided : (s u : List ℕ) → wantedOf s ≤ length s → parseOf (s ++ u) ≡ parseOf s
