@@ -3,9 +3,12 @@
    the archive:
        export PKG_CONFIG_PATH=target/archive/$(uname -m)
        cc include/driver.c $(pkg-config --cflags --libs malstrink)
-   Exit status: 0 the line ended behind a frame, 1 a frame was refused, 2 trouble. After a refusal it
-   stops: where the next frame begins is not known then. Not shown, since they are no matter of frames:
-   setting a serial line up, and giving up on one that falls silent inside a frame. */
+   Exit status: 0 the line ended between frames, 1 a frame was refused, 2 trouble, a frame that is too
+   long among it. After a refusal it stops: where the next frame begins is not known then.
+   The line must block: no O_NONBLOCK, and a terminal raw, with VMIN 1 or more. Otherwise 0 bytes, or
+   EAGAIN, mean only that nothing has come yet, and this driver would take them for the line's end, or
+   for trouble. Not shown, since they are no matter of frames: setting a serial line up, and giving up
+   on one that falls silent inside a frame. */
 #define _POSIX_C_SOURCE 200809L /* read is not C's but POSIX's */
 #include "malstrink.h"
 #include <errno.h>
@@ -21,7 +24,8 @@
 #define ROOM 1440
 
 /* Reads n more bytes behind the *have that are there, fewer only where the line ends. A read may
-   bring less than it is asked for, and a signal may break it off. False: the line cannot be read. */
+   bring less than it is asked for, and a signal may break it off. The line must block, so that 0 bytes
+   are its end and EAGAIN does not come. False: the line cannot be read. */
 static bool read_more(int line, uint8_t *room, size_t n, size_t *have)
 {
     while (n > 0) {
@@ -42,7 +46,8 @@ typedef enum { PARSED, ENDED, TOO_LONG, UNREADABLE } Came;
 /* Takes the next frame off the line: five bytes, then the LEN - 5 that are still to come, then one
    parse. It never waits because of the parse: that refuses by 1 also a whole frame, one whose block
    runs past its end (docs/RULES.md, 3.3), and who reads on then waits for ever, or takes bytes of the
-   next frame. *len is LEN; room_n is 5 or more. */
+   next frame. *len is LEN, 0 where the head is refused; it is set where PARSED or TOO_LONG is
+   answered, and *frame where PARSED is. room_n is 5 or more. */
 static Came frame_from(int line, uint8_t *room, size_t room_n, size_t *len, MalstrinkParsed *frame)
 {
     size_t have = 0;

@@ -1,13 +1,19 @@
 //! A serial driver: takes frames off a line, here standard input, as they arrive, each read and parsed once, and lists them as
-//! framelist does (docs/RULES.md, 11.3). Run it, once include/archive has made the archive:
+//! framelist does (docs/RULES.md, 11.3). Run it in bindings/rust, once include/archive has made the archive:
 //!
 //! ```text
 //! cargo run --example driver <../../crates/driver/stdin
 //! ```
 //!
-//! Exit status: 0 the line ended behind a frame, 1 a frame was refused, 2 trouble. After a refusal it stops: where the next frame
-//! begins is not known then. Not shown, since they are no matter of frames: setting a serial line up, and giving up on one that
-//! falls silent inside a frame.
+//! The last frame that it reads of this line is refused, so cargo reports that it ended with status 1.
+//!
+//! Exit status: 0 the line ended between frames, 1 a frame was refused, 2 trouble, a frame that is too long among it. After a
+//! refusal it stops: where the next frame begins is not known then.
+//!
+//! The line must block: no `O_NONBLOCK`, and a terminal raw, with `VMIN` 1 or more. Otherwise 0 bytes, or `EAGAIN`
+//! (`ErrorKind::WouldBlock`), mean only that nothing has come yet, and this driver would take them for the line's end, or for
+//! trouble. Not shown, since they are no matter of frames: setting a serial line up, and giving up on one that falls silent inside
+//! a frame.
 use malstrink::{parse, Head, Parsed, Refusal};
 use std::fmt;
 use std::fs::File;
@@ -24,7 +30,7 @@ const ROOM: usize = 1440;
 
 /// What came of the line.
 enum Came<'a> {
-    /// No byte: the line ended behind a frame.
+    /// No byte: the line ended between frames.
     End,
     /// A LEN that there is no room for.
     TooLong(usize),
@@ -33,7 +39,7 @@ enum Came<'a> {
 }
 
 /// Fills `room`, or as much of it as the line still has, and tells how much. A read may bring less than it is asked for, and a
-/// signal may break it off.
+/// signal may break it off. The line must block, so that 0 bytes are its end and `WouldBlock` does not come.
 fn fill(line: &mut impl Read, room: &mut [u8]) -> io::Result<usize> {
     let mut have = 0;
     while have < room.len() {
