@@ -5,7 +5,7 @@
 //! cargo run --example driver <../../crates/driver/stdin
 //! ```
 //!
-//! The last frame that it reads of this line is refused, so cargo reports that it ended with status 1.
+//! The last frame that it reads of this line is refused, so it ends with status 1, and cargo with it.
 //!
 //! Exit status: 0 the line ended between frames, 1 a frame was refused, 2 trouble, a frame that is too long among it. After a
 //! refusal it stops: where the next frame begins is not known then.
