@@ -1,5 +1,6 @@
 // Lists the frames of a capture on standard output; a refusal, and a write that fails, are also said on standard error (docs/RULES.md, 11).
 ghost use mathlib.Core.Path.{_≡_};
+ghost use mathlib.Core.Bool.{false};
 ghost use lib.ListN.{drop};
 ghost use Rattle.packet_parse.specs.Frame.{parseOf, parsed};
 ghost use Rattle.listing.specs.Listed.{listed};
@@ -39,23 +40,29 @@ fn put_title() -> bool {
     )
 }
 
-// Once a write has failed, nothing more is written. So it is with a refusal's line.
-fn put_line(ok: bool, at: usize, p: ParsedPacket) -> bool {
-    if !ok {
-        return false;
-    }
-    written(
-        b"framelist",
-        put(at)
+// A frame's line. Once a write has failed, nothing more is written. So it is with a refusal's line.
+pub fn put_frame(program: &[u8], ok: bool, at: usize, p: ParsedPacket) -> bool
+    ensures { λ r. ⌜ (ok ≡ false → r ≡ false) ⌝ }
+{
+    if ok {
+        let well = put(at)
             && put(p.len)
             && put(p.addr.as_byte() as usize)
             && put(p.ctrl.sqn.value() as usize)
             && put(p.code as usize)
-            && put_last(p.data_len),
-    )
+            && put_last(p.data_len);
+        return written(program, well);
+    }
+    false
 }
 
-fn put_refused(program: &[u8], ok: bool, at: usize, e: Refusal) -> bool {
+fn put_line(ok: bool, at: usize, p: ParsedPacket) -> bool {
+    put_frame(b"framelist", ok, at, p)
+}
+
+fn put_refused(program: &[u8], ok: bool, at: usize, e: Refusal) -> bool
+    ensures { λ r. ⌜ (ok ≡ false → r ≡ false) ⌝ }
+{
     if !ok {
         return false;
     }
@@ -94,6 +101,15 @@ fn say_refused(program: &[u8], at: usize, e: Refusal) {
     say(b"\n");
 }
 
+// A refusal: the last line of the program's listing, and in words on standard error, whether that line was written or not.
+pub fn put_refusal(program: &[u8], ok: bool, at: usize, e: Refusal) -> bool
+    ensures { λ r. ⌜ (ok ≡ false → r ≡ false) ⌝ }
+{
+    let well = put_refused(program, ok, at, e);
+    say_refused(program, at, e);
+    well
+}
+
 // The bytes from a place on; past the end there are none.
 fn bytes_from(capture: &[u8], at: usize) -> &[u8]
     ensures { λ r. ⌜ now r ≡ drop at (now (capture .entry)) ⌝ }
@@ -110,8 +126,7 @@ pub fn frame_at(program: &[u8], ok: bool, capture: &[u8], at: usize) -> Parsed
 {
     let answer = packet_parse::parse(bytes_from(capture, at));
     if let Parsed::Refused(e) = answer {
-        put_refused(program, ok, at, e);
-        say_refused(program, at, e);
+        put_refusal(program, ok, at, e);
     }
     answer
 }

@@ -107,7 +107,7 @@ parse-waits s h = go (headOf s) refl
         let five : 5 ≡ wantedOf s = omega arith in
         parse-of-refused s 1 (length s ∷ 5 ∷ []) (head-of-few s (omega arith)) ∙ ap (λ (k : ℕ). refused 1 (length s ∷ k ∷ [])) five
 
--- Once as many are there, neither `head` nor the parse changes, whatever follows.
+-- Once as many are there the parse no longer changes, whatever follows.
 pub parse-decided : (s u : List ℕ) → wantedOf s ≤ length s → parseOf (s ++ u) ≡ parseOf s
 parse-decided s u h = go (headOf s) refl
   where
@@ -120,6 +120,8 @@ parse-decided s u h = go (headOf s) refl
         let w = wanted-as s (refused n vs) e in
         parse-of-refused (s ++ u) n vs (head-stays s u (omega arith) ∙ e) ∙ sym (parse-of-refused s n vs e)
 
+-- The same in the words of the order: of a refusal and of an answer of `head`.
+
 -- ---- a refusal of `head`
 
 -- By 1: fewer than five bytes are there, and the parse says the same. Only this may change as bytes arrive.
@@ -131,14 +133,18 @@ refused-so-far s vs e = let why = one 1 vs refl (head-refuses s 1 vs e) in (why 
     one k ws o (badStart h b) = absurd (omega (arith, o))
     one k ws o (badCtrl h b c) = absurd (omega (arith, o))
 
--- By 2 or 3: the parse refuses by the same number and values, whatever follows.
-pub refused-for-good : (s u : List ℕ) (n : ℕ) (vs : List ℕ) → headOf s ≡ refused n vs → (n ≡ 1 → ⊥) → parseOf (s ++ u) ≡ refused n vs
-refused-for-good s u n vs e other = parse-of-refused (s ++ u) n vs (head-stays s u (five n vs (head-refuses s n vs e) other) ∙ e)
+-- By 2 or 3: five bytes are there, so `head` says the same, whatever follows,
+pub refusal-stays : (s u : List ℕ) (n : ℕ) (vs : List ℕ) → headOf s ≡ refused n vs → (n ≡ 1 → ⊥) → headOf (s ++ u) ≡ refused n vs
+refusal-stays s u n vs e other = head-stays s u (five n vs (head-refuses s n vs e) other) ∙ e
   where
     five : (k : ℕ) (ws : List ℕ) → HeadRefused s k ws → (k ≡ 1 → ⊥) → 5 ≤ length s
     five k ws (tooFew h) o = absurd (o refl)
     five k ws (badStart h b) o = h
     five k ws (badCtrl h b c) o = h
+
+-- and the parse refuses by the same number and values.
+pub refused-for-good : (s u : List ℕ) (n : ℕ) (vs : List ℕ) → headOf s ≡ refused n vs → (n ≡ 1 → ⊥) → parseOf (s ++ u) ≡ refused n vs
+refused-for-good s u n vs e other = parse-of-refused (s ++ u) n vs (refusal-stays s u n vs e other)
 
 -- ---- an answer of `head`
 

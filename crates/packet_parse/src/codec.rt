@@ -170,7 +170,8 @@ fn parse_frame(f: &[u8], addr: Address, ctrl: ControlByte) -> Parsed
     }
 }
 
-// The first five bytes: whose frame, how long, and its control byte.
+// The first five bytes: whose frame, how long, and its control byte. LEN is told as it stands there, 0 to 65,535: a driver tests it
+// before it takes five away, and against its room (docs/RULES.md, 3.7).
 pub fn head(buf: &[u8]) -> HeadAnswer
     ensures { λ r. ⌜ headAnswer r ≡ headOf (now (buf .entry)) ⌝ }
 {

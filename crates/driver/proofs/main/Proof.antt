@@ -1,4 +1,4 @@
--- `main` ends: each turn takes a byte or more off the line, and no line is longer than LONGEST.
+-- `main` ends: each turn takes five bytes or more off the line, and it stops at LONGEST.
 -- Assumes nothing.
 use mathlib.Core.Path.{_≡_}
 use Prim.Native.Nat.{_-_}
@@ -17,14 +17,15 @@ abbrev μ-loop : tie.MeasureT-loop
 
 add-at : tie.Need-add-at Inv-loop μ-loop
 add-at c =
-    let f = c .before .before .before .before .before .before .before in
-    let few = read-within _ _ _ _ (f .frame-from .ensures) (c .before .before .before .before .answer .given .1) in
-    omega (arith, few, f .before .before .loop-test .taken, f .before .before .before .loop .inv, c .before .before .before .before .before .before .room2 .given)
+    let f = c .before .before .before .before .before .before in
+    let size = read-within _ _ _ _ (f .frame-from .ensures) (c .before .before .before .answer .given .1) in
+    omega (arith, size .0, f .before .before .loop-test .taken, f .before .before .before .loop .inv, c .before .before .before .before .before .room2 .given)
 
 loop-less : tie.Need-loop-less Inv-loop μ-loop
 loop-less c =
-    let f = c .before .before .before .before .before .before .before in
-    omega (arith, f .before .before .loop-test .taken, c .before .before .if3 .left)
+    let f = c .before .before .before .before .before .before in
+    let size = read-within _ _ _ _ (f .frame-from .ensures) (c .before .before .before .answer .given .1) in
+    omega (arith, size .1, f .before .before .loop-test .taken)
 
 pub main-spec : {M : Type 1} → statement M
 main-spec =
@@ -32,12 +33,6 @@ main-spec =
     (tie.spec
     Inv-loop
     μ-loop
-    (λ c κs. search needs)
-    (λ c. search needs)
-    (λ c κs. search needs)
-    (λ c. search needs)
-    (λ c. search needs)
-    (λ c κs. search needs)
     (λ c κs. search needs)
     (λ c. search needs)
     (λ c. search needs)
@@ -48,6 +43,10 @@ main-spec =
     (λ c. search needs)
     add-at
     loop-less
+    (λ c. search needs)
+    (λ c. search needs)
+    (λ c κs. search needs)
+    (λ c. search needs)
     (λ c. search needs)
     (λ c. search needs)
     (λ c κs. search needs)

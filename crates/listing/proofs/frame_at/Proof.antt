@@ -12,7 +12,7 @@ answered : (at-parse : tie.After-parse) → parsed (at-parse .parse .result) ≡
 answered at-parse = at-parse .parse .ensures ∙ ap parseOf (at-parse .before .bytes-from .ensures)
 
 returns : tie.Need-returns
-returns c = ap parsed (sym (c .before .before .before .answer .given .1)) ∙ answered (c .before .before .before .before .before)
+returns c = ap parsed (sym (c .before .before .answer .given .1)) ∙ answered (c .before .before .before .before)
 
 returns-2 : tie.Need-returns-2
 returns-2 c = answered (c .before .before)
@@ -24,7 +24,6 @@ frame-at-spec =
     (λ c κs. search needs)
     (λ c κs. search needs)
     (λ c. search needs)
-    (λ c κs. search needs)
     (λ c κs. search needs)
     (λ c. search needs)
     returns

@@ -1,4 +1,4 @@
--- `fill` meets its contract: what was there stays, as many come as are wanted at most, and each turn brings a byte or more.
+-- `fill` meets its contract: what was there stays, as many come as are wanted or fewer, and each turn brings a byte or more.
 -- Assumes nothing.
 use mathlib.Core.Path.{_≡_}
 use Prim.Native.Nat.{_≤_, _-_}
@@ -20,15 +20,15 @@ returns c =
     let l = c .before .before .before .before .before .before .loop in
     (search needs, front-kept _ _ _ _ _ (l .inv .0) (omega (arith, l .inv .1, l .inv .2)) (l .inv .4))
 
+returns-2 : tie.Need-returns-2 Inv-loop μ-loop
+returns-2 c =
+    let l = c .before .before .before .before .before .before .before .before .before .before .loop in
+    (search needs, front-kept _ _ _ _ _ (l .inv .0) (omega (arith, l .inv .1, l .inv .2)) (l .inv .4))
+
 loop-again : tie.Need-loop-again Inv-loop μ-loop
 loop-again c =
     let l = c .before .before .before .before .before .before .before .before .before .before .loop in
     (search needs, search needs, search needs, search needs, front-kept _ _ _ _ _ (l .inv .0) (omega (arith, l .inv .1, l .inv .2)) (l .inv .4))
-
-returns-3 : tie.Need-returns-3 Inv-loop μ-loop
-returns-3 c =
-    let l = c .before .before .before .before .before .before .before .before .before .before .loop in
-    (search needs, front-kept _ _ _ _ _ (l .inv .0) (omega (arith, l .inv .1, l .inv .2)) (l .inv .4))
 
 pub fill-spec : {M : Type 1} → statement M
 fill-spec =
@@ -48,9 +48,9 @@ fill-spec =
     (λ c. search needs)
     (λ c κs. search needs)
     (λ c. search needs)
+    returns-2
+    (λ c. search needs)
     (λ c. search needs)
     loop-again
     (λ c. search needs)
-    (λ c. search needs)
-    (λ c. search needs)
-    returns-3)
+    (λ c. search needs))
