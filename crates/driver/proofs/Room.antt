@@ -14,7 +14,7 @@ use Rattle.packet_parse.specs.Driver.{wantedOf}
 use Rattle.packet_parse.specs.declared.codec.Parsed.{Parsed}
 use Rattle.packet_parse.specs.declared.codec.ParsedPacket.{ParsedPacket}
 use Rattle.packet_parse.proofs.Arriving.{parse-of-refused, parse-waits, parse-decided, accepted-wanted, wanted-as, wanted-of-five, five-wanted}
-use Rattle.driver.specs.Arrives.{Arrives, Filled}
+use Rattle.driver.specs.Arrives.{Arrives, Fills}
 use Rattle.driver.specs.declared.arrive.Arrival.{Arrival}
 use Rattle.driver.specs.declared.arrive.There.{There}
 
@@ -26,11 +26,11 @@ front-kept have n room tail first h l e =
     let m : length (take n room) ≡ n = length-take-le n room l in
     take-append-le have (take n room) tail (omega arith) ∙ take-take have n room h ∙ e
 
-pub filled-all : (have want : ℕ) (t : There) (n : ℕ) → Filled have want t → t ≡ There.All n → n ≡ want
-filled-all have want t n f e = let k : Filled have want (There.All n) = subst (Filled have want) e f in k
+pub filled-all : (have want : ℕ) (t : There) (n : ℕ) → Fills have want t → t ≡ There.All n → n ≡ want
+filled-all have want t n f e = let k : Fills have want (There.All n) = subst (Fills have want) e f in k
 
-pub filled-ended : (have want : ℕ) (t : There) (n : ℕ) → Filled have want t → t ≡ There.Ended n → (have ≤ n) × (n < want)
-filled-ended have want t n f e = let k : Filled have want (There.Ended n) = subst (Filled have want) e f in k
+pub filled-ended : (have want : ℕ) (t : There) (n : ℕ) → Fills have want t → t ≡ There.Ended n → (have ≤ n) × (n < want)
+filled-ended have want t n f e = let k : Fills have want (There.Ended n) = subst (Fills have want) e f in k
 
 -- ---- what is wanted
 

@@ -19,7 +19,7 @@ Arrives room (Arrival.TooLong n) = (wantedOf (take «HEADER_LEN» room) ≡ n) �
 Arrives room Arrival.Failed = Unit {0}
 
 -- how many are there, from `have` on: all of `want`, or fewer
-abbrev pub Filled : (have want : ℕ) → There → Type 0
-Filled have want (There.All n) = n ≡ want
-Filled have want (There.Ended n) = (have ≤ n) × (n < want)
-Filled have want There.Failed = Unit {0}
+abbrev pub Fills : (have want : ℕ) → There → Type 0
+Fills have want (There.All n) = n ≡ want
+Fills have want (There.Ended n) = (have ≤ n) × (n < want)
+Fills have want There.Failed = Unit {0}

@@ -4,7 +4,7 @@ ghost use Prim.Native.Nat.{_+_, _-_, _≤_};
 ghost use lib.ListN.{length, take};
 ghost use Rattle.packet_head.specs.Numbers.{«HEADER_LEN»};
 ghost use Rattle.packet_parse.specs.Driver.{wantedOf};
-ghost use Rattle.driver.specs.Arrives.{Arrives, Filled};
+ghost use Rattle.driver.specs.Arrives.{Arrives, Fills};
 use packet_head::HEADER_LEN;
 use packet_parse::HeadAnswer;
 use packet_parse::Parsed;
@@ -35,7 +35,7 @@ enum There {
 fn fill(fd: i32, room: &mut [u8], have: usize, want: usize) -> There
     requires { ⌜ have ≤ want ⌝ }
     requires { ⌜ want ≤ length (now room) ⌝ }
-    ensures { λ r. ⌜ Filled have want r ⌝ }
+    ensures { λ r. ⌜ Fills have want r ⌝ }
     ensures { λ _. ⌜ take have (now (room .exit)) ≡ take have (now (room .entry)) ⌝ }
 {
     let mut n = have;
