@@ -19,12 +19,12 @@ use Rattle.packet_parse.proofs.Within.{accepted-inside}
 
 -- ---- the head of five bytes or more looks at five
 
-abbrev pub headFrom5 : ℕ → ℕ → ℕ → ℕ → ℕ → Answer Head
-headFrom5 a b c d e = refuseIf (not (eqb a 0x53)) 2 (a ∷ []) (andThen (controlOf e) (λ ctrl. given (record { addr = b; len = lowNumber (c ∷ d ∷ []); ctrl = ctrl })))
+abbrev pub headByBytes : ℕ → ℕ → ℕ → ℕ → ℕ → Answer Head
+headByBytes a b c d e = refuseIf (not (eqb a 0x53)) 2 (a ∷ []) (andThen (controlOf e) (λ ctrl. given (record { addr = b; len = lowNumber (c ∷ d ∷ []); ctrl = ctrl })))
 
-pub head-of-5 : (s : List ℕ) → 5 ≤ length s → headOf s ≡ headFrom5 (getD s 0 0) (getD s 1 0) (getD s 2 0) (getD s 3 0) (getD s 4 0)
+pub head-by-bytes : (s : List ℕ) → 5 ≤ length s → headOf s ≡ headByBytes (getD s 0 0) (getD s 1 0) (getD s 2 0) (getD s 3 0) (getD s 4 0)
 unfolding headOf
-head-of-5 s h = refuse-false _ _ _ _ (le-ltb (length s) 5 h)
+head-by-bytes s h = refuse-false _ _ _ _ (le-ltb (length s) 5 h)
 
 -- ---- with enough bytes for LEN the rest of the tests are of the first LEN
 
@@ -49,7 +49,7 @@ same-first-bytes s t s5 t5 sl tl five front =
     let e₃ = g 3 (omega arith) in
     let n : lenOf s ≡ lenOf t = ap₂ (λ (x y : ℕ). lowNumber (x ∷ y ∷ [])) e₂ e₃ in
     let h : headOf s ≡ headOf t =
-    head-of-5 s s5 ∙ (λ i. headFrom5 (g 0 (omega arith) i) (g 1 (omega arith) i) (e₂ i) (e₃ i) (g 4 (omega arith) i)) ∙ sym (head-of-5 t t5) in
+    head-by-bytes s s5 ∙ (λ i. headByBytes (g 0 (omega arith) i) (g 1 (omega arith) i) (e₂ i) (e₃ i) (g 4 (omega arith) i)) ∙ sym (head-by-bytes t t5) in
     let f : take (lenOf s) s ≡ take (lenOf t) t = front ∙ ap (λ (k : ℕ). take k t) n in
     parse-of-len s sl ∙ ap₂ (λ (x : Answer Head) (l : List ℕ). andThen x (λ h. frameOf l (h .addr) (h .ctrl))) h f ∙ sym (parse-of-len t (omega arith))
 

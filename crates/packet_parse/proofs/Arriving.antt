@@ -18,7 +18,7 @@ use Rattle.packet_parse.specs.Frame.{Head, Fields, lenOf, headOf, frameO
 use Rattle.packet_parse.specs.Driver.{HeadRefused, HeadRefused.tooFew, HeadRefused.badStart, HeadRefused.badCtrl, toRead, wantedOf, driverOf}
 use Rattle.packet_parse.proofs.HeadTold.{head-answers, accepted-told}
 use Rattle.packet_parse.proofs.Within.{accepted-inside}
-use Rattle.packet_parse.proofs.AfterLen.{headFrom5, head-of-5, parse-whatever-follows}
+use Rattle.packet_parse.proofs.AfterLen.{headByBytes, head-by-bytes, parse-whatever-follows}
 
 -- ---- `head` looks at five bytes and no more
 
@@ -26,9 +26,9 @@ pub head-stays : (s u : List ℕ) → 5 ≤ length s → headOf (s ++ u) ≡ hea
 head-stays s u h =
     let l = length-append s u in
     let at : (i : ℕ) → i < 5 → getD (s ++ u) i 0 ≡ getD s i 0 = λ i k. List·getD-append s u 0 i (omega arith) in
-    head-of-5 (s ++ u) (omega arith)
-    ∙ (λ i. headFrom5 (at 0 (omega arith) i) (at 1 (omega arith) i) (at 2 (omega arith) i) (at 3 (omega arith) i) (at 4 (omega arith) i))
-    ∙ sym (head-of-5 s h)
+    head-by-bytes (s ++ u) (omega arith)
+    ∙ (λ i. headByBytes (at 0 (omega arith) i) (at 1 (omega arith) i) (at 2 (omega arith) i) (at 3 (omega arith) i) (at 4 (omega arith) i))
+    ∙ sym (head-by-bytes s h)
 
 pub head-of-five : (s : List ℕ) → headOf s ≡ headOf (take 5 s)
 head-of-five s = elim (decLe 5 (length s)) [
