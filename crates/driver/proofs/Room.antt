@@ -1,5 +1,5 @@
 -- What a driver has in its room: what was there stays when more comes behind it, what is wanted of five bytes still is wanted, and what is
--- answered is the parse of the line.
+-- answered is the parse of the room's bytes, whatever follows them.
 -- Assumes nothing.
 use mathlib.Core.Path.{_≡_, sym, ap, _∙_, subst}
 use mathlib.Core.List.{List, [], _∷_, _++_}
@@ -68,7 +68,7 @@ read-within room r p n h e =
     let w = five-wanted (take n room) in
     (k .0, omega (arith, k .1))
 
--- It is the parse of the whole line, whatever follows on it,
+-- It is the parse of what was read, whatever follows,
 pub read-as-line : (room u : List ℕ) (p : Parsed) (n : ℕ) → Arrives room (Arrival.Read p n) → parsed p ≡ parseOf (take n room ++ u)
 read-as-line room u p n a =
     let size : length (take n room) ≡ n = length-take-le n room (a .0) in

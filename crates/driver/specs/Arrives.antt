@@ -1,5 +1,5 @@
--- What a driver answers, over the bytes that stand in its room afterwards (docs/RULES.md, 3.7 and 15). That these are the line's, and that
--- the line has ended where it says so, no contract can say: `read` promises neither.
+-- What a driver answers, over the bytes that stand in its room afterwards (docs/RULES.md, 3.7 and 15). That these came off the line, and
+-- that the line has ended where it says so, no contract can say: `read` promises neither.
 -- Assumes nothing.
 use Prim.Native.Nat.{ℕ, _≤_, _<_}
 use mathlib.Core.Path.{_≡_}
