@@ -387,10 +387,8 @@ static inline void malstrink_clear(void *p, size_t n)
 }
 
 /* How much stack a form below takes, and zeroes: more than the deepest call needs, as include/stack
-   measures it. docs/PERFORMANCE.md, Stack, has the table, call by call: by value, unsealing takes
-   1,160 bytes with the answer and the session that is handed over, sealing 936. Take header and
-   archive from one directory: with an archive that still made key schedules a form takes 1,952. */
-#define MALSTRINK_STACK 1920
+   measures it. docs/PERFORMANCE.md, Stack, has the table, call by call. */
+#define MALSTRINK_STACK 2560
 
 /* A session crosses by value, so a call leaves copies of it on the stack. Each form below makes its
    call in a function of its own, which is not inlined, and zeroes the stack that this one had. */
@@ -442,7 +440,7 @@ static inline MalstrinkAnswer malstrink_given16(MalstrinkAnswer a, const uint8_t
 /* ---- sessions, by pointer: the proved call of the same name without _in, on the session where it
    stands. The session after the call is stored back, also beside a refusal, and the stack that the
    call had is zeroed, MALSTRINK_STACK bytes of it: the header's own copies of the session and what
-   the archive's code laid down there, copies of keys among it. What is not cleared: the
+   the archive's code laid down there, its key schedules among it. What is not cleared: the
    processor's registers and wherever a system has saved them (a signal, a switch of tasks), your
    own arrays that a key came from (malstrink_clear), and s itself until malstrink_session_wipe_in.
    Link statically, or with -Wl,-z,now, which pkg-config's words have: where memcpy and memset are

@@ -1,13 +1,9 @@
 /* Runs a function on a stack of its own, painted before, so that what it left there can be looked
-   at. For stack.c, left.c and forms.c; with PAINTED_ALONE, which is for oracle/depth, without the
-   archive's calls. */
+   at. For stack.c and forms.c. */
 #ifndef _XOPEN_SOURCE
 #define _XOPEN_SOURCE 700
 #endif
-#ifndef PAINTED_ALONE
 #include "malstrink.h"
-#endif
-#include <stdint.h>
 #include <stdio.h>
 #include <stdlib.h>
 #include <string.h>
@@ -33,22 +29,6 @@ static void run_painted(void (*work)(void), uint8_t colour)
     if (swapcontext(&outside, &inside) != 0) abort();
 }
 
-/* how many bytes the work took, seen by what is no longer painted; with two colours, since it may
-   write the one. The colour is kept out of the registers, which the work saves on its stack. */
-static inline size_t taken(void (*work)(void))
-{
-    size_t most = 0;
-    for (volatile unsigned colour = 0x5A; colour <= 0xA5; colour += 0x4B) {
-        size_t at = 0;
-        run_painted(work, (uint8_t)colour);
-        while (at < ROOM && stack_of_its_own.bytes[at] == paint) at++;
-        if (at == 0) abort();
-        if (most < ROOM - at) most = ROOM - at;
-    }
-    return most;
-}
-
-#ifndef PAINTED_ALONE
 static const uint8_t test_scbk[16] = { 0x6E, 0xC4, 0x1B, 0x93, 0xF7, 0x28, 0x5D, 0xA0, 0x81, 0x3C, 0xE9, 0x56, 0x0F, 0xBA, 0x74, 0xD2 };
 static const uint8_t test_cuid[8] = { 0x11, 0x12, 0x13, 0x14, 0x15, 0x16, 0x17, 0x18 };
 static const uint8_t test_rnd_a[8] = { 0xA0, 0xA1, 0xA2, 0xA3, 0xA4, 0xA5, 0xA6, 0xA7 };
@@ -83,4 +63,3 @@ static void shake_hands(void)
     secure_c = c.session;
     if (c.answer.refusal != 0 || secure_c.state != MALSTRINK_STATE_SECURE || secure_r.state != MALSTRINK_STATE_SECURE) abort();
 }
-#endif

@@ -3,7 +3,7 @@
    each is taken, and the deepest counts. The script `stack` makes a table of it. */
 #include "painted.h"
 
-static uint8_t data[256], out[512], plain_c[512], sealed_c[512], plain_r[512], sealed_r[512], bad_mac[512], bad_padding[512];
+static uint8_t data[256], out[512], plain_c[512], sealed_c[512], plain_r[512], sealed_r[512], bad[512];
 static size_t plain_c_n, sealed_c_n, plain_r_n, sealed_r_n;
 static const MalstrinkBytes8 eight = { { 1, 2, 3, 4, 5, 6, 7, 8 } };
 static const MalstrinkBytes4 four = { { 1, 2, 3, 4 } };
@@ -109,6 +109,20 @@ CALL(unseal_in, opened, malstrink_alone_unseal(&held, seen, seen_n, out, sizeof 
 STEP(clear_stack, malstrink_clear_stack())
 static void NOINLINE call_nothing(void) {}
 
+/* how many bytes the work took, seen by what is no longer painted */
+static size_t taken(void (*work)(void))
+{
+    size_t most = 0;
+    for (unsigned colour = 0x5A; colour <= 0xA5; colour += 0x4B) {
+        size_t at = 0;
+        run_painted(work, (uint8_t)colour);
+        while (at < ROOM && stack_of_its_own.bytes[at] == paint) at++;
+        if (at == 0) abort();
+        if (most < ROOM - at) most = ROOM - at;
+    }
+    return most;
+}
+
 static size_t nothing;
 static size_t most(size_t a, size_t b) { return a < b ? b : a; }
 static size_t once(void (*call)(void)) { held = *one; return taken(call) - nothing; }
@@ -116,13 +130,13 @@ static size_t once(void (*call)(void)) { held = *one; return taken(call) - nothi
 /* at every length, from every session, for each of the packets to seal and of the frames seen */
 static size_t deepest(void (*call)(void))
 {
-    const uint8_t *const frames[] = { plain_c, sealed_c, plain_r, sealed_r, bad_mac, bad_padding, data };
-    const size_t sizes[] = { plain_c_n, sealed_c_n, plain_r_n, sealed_r_n, sealed_c_n, sealed_c_n, 3 };
+    const uint8_t *const frames[] = { plain_c, sealed_c, plain_r, sealed_r, bad, data };
+    const size_t sizes[] = { plain_c_n, sealed_c_n, plain_r_n, sealed_r_n, sealed_c_n, 3 };
     size_t found = 0;
     for (size_t s = 0; s < sizeof all / sizeof *all; s++) {
         one = all[s];
         for (at_length = 0; at_length < LENGTHS; at_length++)
-            for (unsigned k = 0; k < sizeof sizes / sizeof *sizes; k++) {
+            for (unsigned k = 0; k < 6; k++) {
                 asked.addr = 5;
                 asked.sqn = k < 4 ? 1 : 7;
                 asked.code = 0x60;
@@ -135,7 +149,7 @@ static size_t deepest(void (*call)(void))
                 ciphered = k % 3 == 0 ? good : k % 3 == 1 ? good_session : data;
                 seen = frames[k];
                 seen_n = sizes[k];
-                at_body = (at_length * 7 + k) % BODIES;
+                at_body = (at_length * 6 + k) % BODIES;
                 found = most(found, once(call));
             }
     }
@@ -148,18 +162,6 @@ static size_t frame_of(bool from_reader, bool encrypt, uint8_t *to_frame, size_t
     MalstrinkSealed s = malstrink_seal(from_reader ? secure_r : secure_c, p, data, 200, to_frame, room);
     if (s.answer.refusal != 0) abort();
     return s.answer.a;
-}
-
-/* the sealed frame with a byte changed, and a right CRC: unsealing is refused by that number, and no
-   sooner */
-static void change(uint8_t *frame, size_t at, uint8_t refusal)
-{
-    memcpy(frame, sealed_c, sealed_c_n);
-    frame[at] ^= 1;
-    const uint16_t crc = malstrink_crc16(frame, sealed_c_n - 2);
-    frame[sealed_c_n - 2] = (uint8_t)crc;
-    frame[sealed_c_n - 1] = (uint8_t)(crc >> 8);
-    if (malstrink_unseal(secure_r, frame, sealed_c_n, out, sizeof out).answer.refusal != refusal) abort();
 }
 
 #define ROW(name) { #name, call_##name }
@@ -186,8 +188,8 @@ int main(void)
     sealed_c_n = frame_of(false, true, sealed_c, sizeof sealed_c);
     plain_r_n = frame_of(true, false, plain_r, sizeof plain_r);
     sealed_r_n = frame_of(true, true, sealed_r, sizeof sealed_r);
-    change(bad_mac, sealed_c_n - 6, 15);
-    change(bad_padding, sealed_c_n - 7, 14);
+    memcpy(bad, sealed_c, sealed_c_n);
+    bad[40] ^= 1;
     if (malstrink_encrypt_data(client, server, data, 200, good, sizeof good).answer.a != 208) abort();
     if (malstrink_session_seal_data(secure_c, data, 200, good_session, sizeof good_session).answer.a != 208) abort();
     if (malstrink_decrypt_data(client, server, good, 208, out, sizeof out).answer.refusal != 0) abort();

@@ -1,33 +1,35 @@
--- A round key as two numbers, two of its words in each: the halves that the code makes are those of the next round key, and of the one before.
+-- A round key as two numbers, two of its words in each: the halves that the code makes are those of the next round key.
 -- Assumes nothing.
 use mathlib.Core.Path.{◌≡◌, ap, ◌∙◌}
 use mathlib.Core.List.{List, [], ◌∷◌, ◌++◌}
 use Prim.Native.Nat.{ℕ, ◌*◌, ◌/◌, ◌%◌, ◌^◌, ◌<◌}
 use native.Mathlib.Omega.{arith}
 use lib.Bits.{bit_xor, xor_zero_r}
-use lib.ListN.{get_or}
+use lib.ListN.{length, get_or}
 use Rattle.laws.specs.Bytes.{xorl}
+use Rattle.laws.specs.Table.{block_of}
+use Rattle.laws.proofs.Listed.{block_listed}
 use Rattle.aes_field.specs.Field.{◌⊕◌}
 use Rattle.aes_field.specs.Packed.{packed, unpacked}
 use Rattle.aes_field.proofs.Packing.{unpacked_xor, placed, empty, drop_bytes, drop-bytes_is, byte}
-use Rattle.aes.specs.RoundKey.{next_key, prior_key}
-use Rattle.aes.specs.Halves.{key_turn, carry, uncarry}
+use Rattle.aes.proofs.RoundKey.{keyByte, next_key}
+use Rattle.aes.specs.Halves.{key_turn, carry, part}
 
 -- the first column of l in the second's place
-abbrev pub up : List ℕ → List ℕ
+abbrev up : List ℕ → List ℕ
 up l = 0 ∷ 0 ∷ 0 ∷ 0 ∷ get_or l 0 0 ∷ get_or l 1 0 ∷ get_or l 2 0 ∷ get_or l 3 0 ∷ []
 
 -- the second column of l in the first's place
-abbrev pub down : List ℕ → List ℕ
+abbrev down : List ℕ → List ℕ
 down l = get_or l 4 0 ∷ get_or l 5 0 ∷ get_or l 6 0 ∷ get_or l 7 0 ∷ 0 ∷ 0 ∷ 0 ∷ 0 ∷ []
 
-pub shifted_up : (z : ℕ) → unpacked 8 (z * 2 ^ 32 % 2 ^ 64) ≡ up (unpacked 8 z)
+shifted_up : (z : ℕ) → unpacked 8 (z * 2 ^ 32 % 2 ^ 64) ≡ up (unpacked 8 z)
 unfolding packed unpacked
 shifted_up z =
     placed 0 0 0 0 (z % 256) (z / 256 % 256) (z / 256 / 256 % 256) (z / 256 / 256 / 256 % 256)
     empty empty empty empty (byte z) (byte (z / 256)) (byte (z / 256 / 256)) (byte (z / 256 / 256 / 256)) (z * 2 ^ 32 % 2 ^ 64) (omega arith)
 
-pub shifted_down : (z : ℕ) → z < 2 ^ 64 → unpacked 8 (z / 2 ^ 32) ≡ down (unpacked 8 z)
+shifted_down : (z : ℕ) → z < 2 ^ 64 → unpacked 8 (z / 2 ^ 32) ≡ down (unpacked 8 z)
 unfolding unpacked
 shifted_down z h =
     let none : drop_bytes z 8 ≡ 0 = omega arith in
@@ -47,7 +49,7 @@ carry-packed x v =
 -- both halves of the round key after that of x and y
 next_halves : (t : List ℕ) (c x y : ℕ)
     → (let a = carry (unpacked 8 x) (key_turn t c (unpacked 8 y)) in a ++ carry (unpacked 8 y) (down a)) ≡ next_key t c (unpacked 8 x ++ unpacked 8 y)
-unfolding unpacked xorl key_turn carry next_key ◌⊕◌
+unfolding unpacked key_turn carry block_of keyByte next_key ◌⊕◌
 next_halves t c x y = simp xor_zero_r
 
 pub next_made : (t : List ℕ) (c x y v a b : ℕ) → a < 2 ^ 64
@@ -60,27 +62,7 @@ next_made t c x y v a b h ev ea eb =
     ∙ ap (λ (l : List ℕ). l ++ carry (unpacked 8 y) (down l)) one
     ∙ next_halves t c x y
 
--- ---- backwards
-
-pub uncarry-packed : (x v : ℕ) → unpacked 8 (bit_xor (bit_xor x (x * 2 ^ 32 % 2 ^ 64)) v) ≡ uncarry (unpacked 8 x) (unpacked 8 v)
-unfolding unpacked xorl uncarry ◌⊕◌
-uncarry-packed x v =
-    unpacked_xor 8 (bit_xor x (x * 2 ^ 32 % 2 ^ 64)) v
-    ∙ ap (λ (l : List ℕ). xorl l (unpacked 8 v)) (unpacked_xor 8 x (x * 2 ^ 32 % 2 ^ 64) ∙ ap (xorl (unpacked 8 x)) (shifted_up x))
-    ∙ simp xor_zero_r
-
--- both halves of the round key before that of x and y
-prior_halves : (t : List ℕ) (c x y : ℕ)
-    → (let b = uncarry (unpacked 8 y) (down (unpacked 8 x)) in uncarry (unpacked 8 x) (key_turn t c b) ++ b) ≡ prior_key t c (unpacked 8 x ++ unpacked 8 y)
-unfolding unpacked xorl key_turn uncarry prior_key ◌⊕◌
-prior_halves t c x y = simp xor_zero_r
-
-pub prior_made : (t : List ℕ) (c x y v a b : ℕ) → x < 2 ^ 64
-    → unpacked 8 b ≡ uncarry (unpacked 8 y) (unpacked 8 (x / 2 ^ 32)) → unpacked 8 v ≡ key_turn t c (unpacked 8 b)
-    → unpacked 8 a ≡ uncarry (unpacked 8 x) (unpacked 8 v)
-    → unpacked 8 a ++ unpacked 8 b ≡ prior_key t c (unpacked 8 x ++ unpacked 8 y)
-prior_made t c x y v a b h eb ev ea =
-    let one : unpacked 8 b ≡ uncarry (unpacked 8 y) (down (unpacked 8 x)) = eb ∙ ap (uncarry (unpacked 8 y)) (shifted_down x h) in
-    ap (λ (l : List ℕ). l ++ unpacked 8 b) (ea ∙ ap (uncarry (unpacked 8 x)) ev)
-    ∙ ap (λ (l : List ℕ). uncarry (unpacked 8 x) (key_turn t c l) ++ l) one
-    ∙ prior_halves t c x y
+-- a key is its two halves
+pub key-halves : (key : List ℕ) → length key ≡ 16 → part key 0 ++ part key 8 ≡ key
+unfolding part block_of
+key-halves key l = block_listed key l

@@ -1,51 +1,42 @@
-// CIPHER and INVCIPHER, FIPS 197, 5.1 and 5.3. Each round key is worked out as its round comes.
+// CIPHER and INVCIPHER, FIPS 197, 5.1 and 5.3.
 ghost use Rattle.std.specs.Prelude.{◌≡◌};
 ghost use Rattle.aes.specs.Cipher.{E, D};
 ghost use Rattle.aes.specs.Ready.{enciphered, deciphered};
 
-use crate::{both, ready, round, schedule};
-use aes_field::field;
+use crate::{ready, round};
 
 // Enciphers a block under a key made ready.
 pub fn encrypt(t: &ready::EncryptTables, k: &ready::EncryptKey, block: [u8; 16]) -> [u8; 16]
     ensures { result ≡ enciphered t.now k.now block }
 {
-    let first = *k;
-    let mut key = both::of(first);
-    let mut s = both::added(both::of(block), key);
-    let mut c = 1u8;
-    for r in 0usize..9 {
-        let n = schedule::next(key, c);
-        key = n;
-        let v = round::round(s, n);
-        s = v;
-        let d = field::twice(c);
-        c = d;
+    let mut x = round::first(block, k, 0);
+    let mut y = round::second(block, k, 8);
+    for r in 0..9 {
+        let at = 16 * (r + 1);
+        let a = round::round(t, k, at, x, y);
+        let b = round::round(t, k, at + 8, y, x);
+        x = a;
+        y = b;
     }
-    let n = schedule::next(key, c);
-    both::joined(round::last(s, n))
+    round::joined(round::last(t, k, 160, x, y), round::last(t, k, 168, y, x))
 }
 
-// Deciphers a block under a key made ready for that, backwards from the last round key.
+// Deciphers a block under a key made ready for that.
 pub fn decrypt(t: &ready::DecryptTables, k: &ready::DecryptKey, block: [u8; 16]) -> [u8; 16]
     ensures { result ≡ deciphered t.now k.now block }
 {
-    let last = *k;
-    let mut key = both::of(last);
-    let mut s = both::added(both::of(block), key);
-    let mut c = 0x36u8;
-    let mut r = 9usize;
+    let mut x = round::first(block, k, 160);
+    let mut y = round::second(block, k, 168);
+    let mut r = 9;
     while 0 < r {
-        let n = schedule::prior(key, c);
-        key = n;
-        let v = round::unround(s, n);
-        s = v;
-        let d = schedule::prior_constant(c);
-        c = d;
+        let at = 16 * r;
+        let a = round::unround(t, k, at, x, y);
+        let b = round::unround(t, k, at + 8, y, x);
+        x = a;
+        y = b;
         r -= 1;
     }
-    let n = schedule::prior(key, c);
-    both::joined(round::unlast(s, n))
+    round::joined(round::unlast(t, k, 0, x, y), round::unlast(t, k, 8, y, x))
 }
 
 // One block under a key.

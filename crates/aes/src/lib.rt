@@ -1,6 +1,5 @@
 // AES-128, FIPS 197.
 mod block;
-mod both;
 mod ready;
 mod round;
 mod schedule;

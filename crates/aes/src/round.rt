@@ -1,88 +1,143 @@
-// The rounds, each with its round key k alone.
-ghost use Rattle.std.specs.Prelude.{◌≡◌};
-ghost use Rattle.aes_field.specs.Packed.{unpacked};
-ghost use Rattle.aes_field.specs.Sbox.{SBOX, INVSBOX};
-ghost use Rattle.aes.specs.State.{sub_bytes, shift_rows, inv_shift_rows, mix_columns, inv_mix_columns, add_round_key};
-ghost use Rattle.aes.specs.Halves.{sixteen, crossed_half, rows_of, shifted_half, unshifted_half};
+// The steps of a round. A half of the state, two of its columns, stands in one number of 64 bits, the first byte lowest; each
+// step makes the half that its first number is, from both. The tables and the key schedule are lent.
+ghost use Rattle.std.specs.Prelude.{◌≡◌, ◌++◌, ◌≤◌, ◌%◌, get_or};
+ghost use Rattle.laws.specs.Bytes.{xorl};
+ghost use Rattle.aes_field.specs.Mix.{mix_byte, inv_mix_byte};
+ghost use Rattle.aes_field.specs.Packed.{unpacked, columns};
+ghost use Rattle.aes.specs.Halves.{subShift, unshiftSub, part};
 
-use crate::both;
 use aes_field::field;
 
-// The two columns of x, each in the other's place.
-fn crossed(x: u64) -> u64
-    ensures { unpacked 8 result ≡ crossed_half (unpacked 8 x) }
+// The byte that a table puts in the place of the lowest byte of x.
+pub(crate) fn sub(t: &[u8; 256], x: u64) -> u8
+    ensures { result ≡ get_or t.now (x % 256) 0 }
 {
-    (x << 32) ^ (x >> 32)
+    t[(x & 255) as usize]
 }
 
-// The rows 0 to 3 of a half: row 0 from x, row 2 from y, and of rows 1 and 3 the bytes that stand crosswise from p and q.
-fn rows(x: u64, p: u64, y: u64, q: u64) -> u64
-    ensures { unpacked 8 result ≡ rows_of (unpacked 8 x) (unpacked 8 p) (unpacked 8 y) (unpacked 8 q) }
+// SubBytes and ShiftRows.
+fn substitute(t: &[u8; 256], x: u64, y: u64) -> u64
+    ensures { unpacked 8 result ≡ subShift t.now (unpacked 8 x) (unpacked 8 y) }
 {
-    (x & 0x000000ff000000ff)
-        ^ (p & 0xff0000000000ff00)
-        ^ (y & 0x00ff000000ff0000)
-        ^ (q & 0x0000ff00ff000000)
+    field::pack(
+        sub(t, x),
+        sub(t, x >> 40),
+        sub(t, y >> 16),
+        sub(t, y >> 56),
+        sub(t, x >> 32),
+        sub(t, y >> 8),
+        sub(t, y >> 48),
+        sub(t, x >> 24),
+    )
 }
 
-// ShiftRows: the half that x becomes, from both.
-fn shifted(x: u64, y: u64) -> u64
-    ensures { unpacked 8 result ≡ shifted_half (unpacked 8 x) (unpacked 8 y) }
+// InvShiftRows and InvSubBytes, with the inverse table.
+fn unsubstitute(t: &[u8; 256], x: u64, y: u64) -> u64
+    ensures { unpacked 8 result ≡ unshiftSub t.now (unpacked 8 x) (unpacked 8 y) }
 {
-    rows(x, crossed(x), y, crossed(y))
+    field::pack(
+        sub(t, x),
+        sub(t, y >> 40),
+        sub(t, y >> 16),
+        sub(t, x >> 56),
+        sub(t, x >> 32),
+        sub(t, x >> 8),
+        sub(t, y >> 48),
+        sub(t, y >> 24),
+    )
 }
 
-// InvShiftRows.
-fn unshifted(x: u64, y: u64) -> u64
-    ensures { unpacked 8 result ≡ unshifted_half (unpacked 8 x) (unpacked 8 y) }
+// Eight bytes of the key schedule, from `at` on.
+fn key(w: &[u8; 176], at: usize) -> u64
+    requires { at ≤ 168 }
+    ensures { unpacked 8 result ≡ part w.now at }
 {
-    rows(x, crossed(y), y, crossed(x))
+    field::pack(
+        w[at],
+        w[at + 1],
+        w[at + 2],
+        w[at + 3],
+        w[at + 4],
+        w[at + 5],
+        w[at + 6],
+        w[at + 7],
+    )
 }
 
-// A round of Cipher.
-pub(crate) fn round(s: both::Halves, k: both::Halves) -> both::Halves
-    ensures { sixteen result ≡ add_round_key (mix_columns (shift_rows (sub_bytes SBOX (sixteen s)))) (sixteen k) 0 }
+// The first half of a block, and a round key added.
+pub(crate) fn first(s: [u8; 16], w: &[u8; 176], at: usize) -> u64
+    requires { at ≤ 160 }
+    ensures { unpacked 8 result ≡ xorl (part s 0) (part w.now at) }
 {
-    let x = aes_sbox::sub_bytes(s.x);
-    let y = aes_sbox::sub_bytes(s.y);
-    both::Halves {
-        x: field::mix(shifted(x, y)) ^ k.x,
-        y: field::mix(shifted(y, x)) ^ k.y,
-    }
+    field::pack(s[0], s[1], s[2], s[3], s[4], s[5], s[6], s[7]) ^ key(w, at)
+}
+
+// The second half.
+pub(crate) fn second(s: [u8; 16], w: &[u8; 176], at: usize) -> u64
+    requires { at ≤ 168 }
+    ensures { unpacked 8 result ≡ xorl (part s 8) (part w.now at) }
+{
+    field::pack(s[8], s[9], s[10], s[11], s[12], s[13], s[14], s[15]) ^ key(w, at)
+}
+
+// A round of Cipher, with the half of its round key from `at` on.
+pub(crate) fn round(t: &[u8; 256], w: &[u8; 176], at: usize, x: u64, y: u64) -> u64
+    requires { at ≤ 168 }
+    ensures { unpacked 8 result ≡ xorl (columns mix_byte (subShift t.now (unpacked 8 x) (unpacked 8 y))) (part w.now at) }
+{
+    field::mix(substitute(t, x, y)) ^ key(w, at)
 }
 
 // The last round, which mixes no columns.
-pub(crate) fn last(s: both::Halves, k: both::Halves) -> both::Halves
-    ensures { sixteen result ≡ add_round_key (shift_rows (sub_bytes SBOX (sixteen s))) (sixteen k) 0 }
+pub(crate) fn last(t: &[u8; 256], w: &[u8; 176], at: usize, x: u64, y: u64) -> u64
+    requires { at ≤ 168 }
+    ensures { unpacked 8 result ≡ xorl (subShift t.now (unpacked 8 x) (unpacked 8 y)) (part w.now at) }
 {
-    let x = aes_sbox::sub_bytes(s.x);
-    let y = aes_sbox::sub_bytes(s.y);
-    both::Halves {
-        x: shifted(x, y) ^ k.x,
-        y: shifted(y, x) ^ k.y,
-    }
+    substitute(t, x, y) ^ key(w, at)
 }
 
 // A round of InvCipher.
-pub(crate) fn unround(s: both::Halves, k: both::Halves) -> both::Halves
-    ensures { sixteen result ≡ inv_mix_columns (add_round_key (sub_bytes INVSBOX (inv_shift_rows (sixteen s))) (sixteen k) 0) }
+pub(crate) fn unround(t: &[u8; 256], w: &[u8; 176], at: usize, x: u64, y: u64) -> u64
+    requires { at ≤ 168 }
+    ensures { unpacked 8 result ≡ columns inv_mix_byte (xorl (unshiftSub t.now (unpacked 8 x) (unpacked 8 y)) (part w.now at)) }
 {
-    let x = aes_sbox::inv_sub_bytes(unshifted(s.x, s.y));
-    let y = aes_sbox::inv_sub_bytes(unshifted(s.y, s.x));
-    both::Halves {
-        x: field::unmix(x ^ k.x),
-        y: field::unmix(y ^ k.y),
-    }
+    field::unmix(unsubstitute(t, x, y) ^ key(w, at))
 }
 
 // Its last round.
-pub(crate) fn unlast(s: both::Halves, k: both::Halves) -> both::Halves
-    ensures { sixteen result ≡ add_round_key (sub_bytes INVSBOX (inv_shift_rows (sixteen s))) (sixteen k) 0 }
+pub(crate) fn unlast(t: &[u8; 256], w: &[u8; 176], at: usize, x: u64, y: u64) -> u64
+    requires { at ≤ 168 }
+    ensures { unpacked 8 result ≡ xorl (unshiftSub t.now (unpacked 8 x) (unpacked 8 y)) (part w.now at) }
 {
-    let x = aes_sbox::inv_sub_bytes(unshifted(s.x, s.y));
-    let y = aes_sbox::inv_sub_bytes(unshifted(s.y, s.x));
-    both::Halves {
-        x: x ^ k.x,
-        y: y ^ k.y,
-    }
+    unsubstitute(t, x, y) ^ key(w, at)
+}
+
+pub(crate) fn low(x: u64) -> u8
+    ensures { result ≡ x % 256 }
+{
+    (x & 255) as u8
+}
+
+// The block that two halves are.
+pub(crate) fn joined(x: u64, y: u64) -> [u8; 16]
+    ensures { result ≡ unpacked 8 x ++ unpacked 8 y }
+{
+    [
+        low(x),
+        low(x >> 8),
+        low(x >> 16),
+        low(x >> 24),
+        low(x >> 32),
+        low(x >> 40),
+        low(x >> 48),
+        low(x >> 56),
+        low(y),
+        low(y >> 8),
+        low(y >> 16),
+        low(y >> 24),
+        low(y >> 32),
+        low(y >> 40),
+        low(y >> 48),
+        low(y >> 56),
+    ]
 }

@@ -115,7 +115,7 @@ xtime_halves a l =
     ap₂ bit_xor p q
 
 -- a byte under the mask 255
-pub keep : (y : ℕ) → bit_and (y % 256) 255 ≡ y % 256
+keep : (y : ℕ) → bit_and (y % 256) 255 ≡ y % 256
 keep y = let e : y % 256 % 256 ≡ y % 256 = omega arith in and_mask (y % 256) 8 ∙ e
 
 -- eight bytes, moved up by three places and by two
@@ -129,7 +129,7 @@ up2 : (a b e f : ℕ) → a < 256 → b < 256 → e < 256 → f < 256
 unfolding packed
 up2 a b e f p q r s = omega arith
 
-pub ff_byte : 255 < 256
+ff_byte : 255 < 256
 ff_byte = lit< tt
 
 pub empty : 0 < 256
@@ -159,24 +159,6 @@ entry_at t x i = ap (λ (z : ℕ). get_or t z 0) (byte_at x i)
 under : (y : ℕ) (m : List ℕ) → y < 2 ^ 64 → length m ≡ 8 → Bytes m → bit_and y (packed m) ≡ packed (zip bit_and (unpacked 8 y) m)
 unfolding unpacked
 under y m h e b = ap (λ (z : ℕ). bit_and z (packed m)) (sym (packed-unpacked 8 y h)) ∙ packed_and (unpacked 8 y) m (sym e) (unpacked-bytes 8 y) b
-
-zip_and_bytes : (l m : List ℕ) → Bytes m → Bytes (zip bit_and l m)
-zip_and_bytes [] m b = bytes_nil
-zip_and_bytes (x ∷ l) [] b = bytes_nil
-zip_and_bytes (x ∷ l) (y ∷ m) b = bytes_cons (bit_and x y) (zip bit_and l m) (omega (arith, and_le_r x y, b 0)) (zip_and_bytes l m (λ i. b (suc i)))
-
-length-zip : (f : ℕ → ℕ → ℕ) (l m : List ℕ) → length l ≡ length m → length (zip f l m) ≡ length l
-length-zip f [] m e = refl
-length-zip f (x ∷ l) [] e = absurd (omega arith)
-length-zip f (x ∷ l) (y ∷ m) e = ap suc (length-zip f l m (omega arith))
-
--- and the bytes of that
-pub unpacked_under : (y : ℕ) (m : List ℕ) → y < 2 ^ 64 → length m ≡ 8 → Bytes m → unpacked 8 (bit_and y (packed m)) ≡ zip bit_and (unpacked 8 y) m
-unfolding unpacked
-unpacked_under y m h e b =
-    let l : length (zip bit_and (unpacked 8 y) m) ≡ 8 = length-zip bit_and (unpacked 8 y) m (sym e) in
-    ap (unpacked 8) (under y m h e b) ∙ ap (λ (n : ℕ). unpacked n (packed (zip bit_and (unpacked 8 y) m))) (sym l)
-    ∙ unpacked-packed (zip bit_and (unpacked 8 y) m) (zip_and_bytes (unpacked 8 y) m b)
 
 module _ (x : ℕ) (h : x < 2 ^ 64) where
   abbrev g : ℕ → ℕ

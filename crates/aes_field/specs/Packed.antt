@@ -1,6 +1,5 @@
 -- Bytes held in one number, the first of them lowest: how the code holds two columns of the state at a time. FIPS 197 has nothing
--- of this. The promises of `pack`, `mix` and `unmix`, and those of `aes_sbox`, all of which `aes` calls, speak of it; no promise of
--- `aes` to its callers does.
+-- of this. The promises of `pack`, `mix` and `unmix` speak of it, which `aes` calls; no promise of `aes` to its callers does.
 -- Assumes nothing.
 use Rattle.std.specs.Prelude.{List, [], ◌∷◌, ℕ, zero, suc, ◌+◌, ◌*◌, ◌/◌, ◌%◌, get_or}
 

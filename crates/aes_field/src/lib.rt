@@ -1,2 +1,3 @@
-// FIPS 197: the field of bytes.
+// FIPS 197: the field of bytes, and the two substitution tables.
 pub mod field;
+pub mod sbox;

@@ -103,7 +103,7 @@ pub fn rows() -> Vec<(String, f64)> {
         c.key(hidden(&KEY), &[0; 16]);
         c.run(hidden(&START), &mut out);
     };
-    let mut rows = vec![("block with its key".to_string(), one(side(|| block(&mut forth)))), ("block back with its key".to_string(), one(side(|| block(&mut back))))];
+    let mut rows = vec![("block, key expanded".to_string(), one(side(|| block(&mut forth)))), ("block back, key expanded".to_string(), one(side(|| block(&mut back))))];
     block(&mut forth);
     assert_eq!(out[..16], aes128_encrypt(&KEY, &START));
     let long = bytes(1600);

@@ -151,7 +151,7 @@ fn block_back() -> Times {
     with_aes(ours, theirs)
 }
 
-/// A block of a run under one key, which the others have expanded before, each from the one before. The C interface has no such call: ours is the difference of two MACs,
+/// A block over an expanded key, each from the one before. The C interface has no such call: ours is the difference of two MACs,
 /// 100 blocks apart.
 fn block_alone() -> Times {
     let long = bytes(3216);
@@ -197,8 +197,8 @@ fn all() -> Vec<(String, Option<f64>, Call)> {
             rows.push((format!("{name}, {}", with_commas(n)), None, Box::new(move || call(n))));
         }
     }
-    rows.push(("block with its key".into(), None, Box::new(block)));
-    rows.push(("block back with its key".into(), None, Box::new(block_back)));
+    rows.push(("block, key expanded".into(), None, Box::new(block)));
+    rows.push(("block back, key expanded".into(), None, Box::new(block_back)));
     rows.push(("block alone".into(), None, Box::new(block_alone)));
     rows
 }

@@ -1,92 +1,54 @@
--- `aes::block::decrypt` meets its contract: with r rounds to go, the round key after that of round r, and those rounds take the state to what all nine take the first one to.
+-- `aes::block::decrypt` meets its contract: with r rounds to go, those take the two halves to what all nine take the first state to.
 -- Assumes nothing.
 use mathlib.Core.Path.{◌≡◌, refl, sym, ap, ap₂, ◌∙◌}
-use mathlib.Core.List.{List}
-use Prim.Native.Nat.{ℕ, ◌+◌, ◌-◌, ◌≤◌, ◌<◌}
+use mathlib.Core.List.{List, ◌++◌}
+use Prim.Native.Nat.{ℕ, ◌≤◌}
 use native.Mathlib.Omega.{arith}
 use borrow.Author.Rules.{rules}
-use lib.ListN.{length}
-use Rattle.aes_field.specs.Sbox.{SBOX, INVSBOX}
-use Rattle.aes.specs.State.{add_round_key}
-use Rattle.aes.specs.KeyExpansion.{power, key_expansion}
-use Rattle.aes.specs.RoundKey.{round_key, backwards}
+use Rattle.aes_field.specs.Packed.{unpacked}
+use Rattle.aes.specs.State.{sub_bytes, inv_shift_rows, inv_mix_columns, add_round_key}
 use Rattle.aes.specs.Cipher.{inv_rounds, inv_cipher}
 use Rattle.aes.specs.Ready.{deciphered}
-use Rattle.aes.specs.Halves.{sixteen}
-use Rattle.aes.specs.declared.both.Halves.{Halves}
-use Rattle.aes.proofs.Constants.{power_nine, prior_power}
-use Rattle.aes.proofs.Halves.{length-sixteen}
-use Rattle.aes.proofs.Neighbours.{length-backwards, back_last, prior-step}
-use Rattle.aes.proofs.KeyRounds.{invCipher-turn, invCipher-end}
+use Rattle.aes.proofs.Rounds.{invRounds-zero, invRounds-step}
+use Rattle.aes.proofs.Halves.{add-halves, unround-halves, unlast-halves}
 use Rattle.aes.proofs.block.decrypt.Statement.{statement}
 use Rattle.aes.proofs.block.decrypt.Tie as tie
 
--- the key whose last round key is k, and its schedule
-abbrev key_of : Halves → List ℕ
-key_of k = backwards SBOX 10 (sixteen k)
-
-abbrev scheduleOf : Halves → List ℕ
-scheduleOf k = key_expansion SBOX (key_of k)
-
-key-size : (k : Halves) → length (key_of k) ≡ 16
-key-size k = length-backwards SBOX 10 (sixteen k) (length-sixteen k)
-
 abbrev invariant-loop : tie.invariant-loop
-invariant-loop t k key₀ s₀ c₀ r₀ key s c r =
-    let w = scheduleOf key₀ in
-    (r ≤ 9) × ((c ≡ power r) × ((sixteen key ≡ round_key w (r + 1)) × (inv_rounds INVSBOX w r (sixteen s) ≡ inv_rounds INVSBOX w 9 (sixteen s₀))))
+invariant-loop t k x₀ y₀ r₀ x y r = (r ≤ 9) × (inv_rounds t k r (unpacked 8 x ++ unpacked 8 y) ≡ inv_rounds t k 9 (unpacked 8 x₀ ++ unpacked 8 y₀))
 
 abbrev decreases-loop : tie.decreases-loop
-decreases-loop t k key₀ s₀ c₀ r₀ key s c r = r
-
-loop-holds : tie.Need-loop-init invariant-loop decreases-loop
-loop-holds c =
-    let k = c.before.before.of.result in
-    (omega arith, (power_nine, (sym (back_last SBOX (sixteen k) (length-sixteen k)), refl)))
+decreases-loop t k x₀ y₀ r₀ x y r = r
 
 loop-again : tie.Need-loop-preserved invariant-loop decreases-loop
 loop-again c =
-    let l = c.before.before.before.before in
-    let k = l.before.before.before.of.result in
-    let w = scheduleOf k in
+    let l = c.before.before.before in
     let r = l.loop.r in
-    let e = l.loop.invariant.1 in
-    let n = c.before.before.prior in
-    let more : 0 < r = c.before.before.before.loop-test.true in
-    let less : r - 1 + 1 ≡ r = omega arith in
-    let made : sixteen n.result ≡ round_key w r = prior-step SBOX (key_of k) _ _ _ r (key-size k) (omega arith) e.0 e.1.0 n.ensures in (
-      omega arith,
-      (
-        prior_power l.loop.c c.prior-constant.result r (search rules) more e.0 c.prior-constant.ensures,
-        (made ∙ ap (round_key w) (sym less), invCipher-turn INVSBOX w _ _ _ _ r more made e.1.1 c.before.unround.ensures),
-      ),
-    )
+    let a = l.before.before.before.args in
+    let s = unpacked 8 l.loop.x ++ unpacked 8 l.loop.y in
+    let step : unpacked 8 c.before.unround.result ++ unpacked 8 c.unround2.result
+    ≡ inv_mix_columns (add_round_key (sub_bytes a.t.now (inv_shift_rows s)) a.k.now r) =
+    ap₂ ◌++◌ c.before.unround.ensures c.unround2.ensures ∙ unround-halves a.t.now a.k.now r l.loop.x l.loop.y in
+    (omega arith, cc (invRounds-step a.t.now a.k.now r s (search rules)))
 
 returns : tie.Need-returns invariant-loop decreases-loop
-unfolding deciphered
+unfolding inv_cipher deciphered
 returns c =
     let l = c.before.before.before.before in
-    let s = l.before in
-    let o = s.before.before.of in
-    let b = s.before.before.before.before.args.block in
-    let k = o.result in
-    let w = scheduleOf k in
-    let r = l.loop.r in
-    let e = l.loop.invariant.1 in
-    let n = c.before.before.prior2 in
-    let none : r ≡ 0 = omega (arith, c.before.before.before.loop-test.false) in
-    let first : sixteen n.result ≡ round_key w 0 = prior-step SBOX (key_of k) _ _ _ r (key-size k) (omega arith) e.0 e.1.0 n.ensures ∙ ap (round_key w) none in
-    let begin : sixteen s.added.result ≡ add_round_key b (round_key w 10) 0 =
-    s.added.ensures ∙ ap₂ (λ (x y : List ℕ). add_round_key x y 0) s.before.of2.ensures (sym (back_last SBOX (sixteen k) (length-sixteen k))) in
+    let a = l.before.before.before.args in
+    let s = unpacked 8 l.loop.x ++ unpacked 8 l.loop.y in
+    let none : l.loop.r ≡ 0 = omega (arith, c.before.before.before.loop-test.false) in
+    let begin : unpacked 8 l.before.before.first.result ++ unpacked 8 l.before.second.result ≡ add_round_key a.block a.k.now 10 =
+    ap₂ ◌++◌ l.before.before.first.ensures l.before.second.ensures ∙ add-halves a.t.now a.k.now 10 a.block in
     c.joined.ensures
-    ∙ invCipher-end INVSBOX w (sixteen s.added.result) (sixteen l.loop.s) (sixteen n.result) _ b first
-    (ap (λ (m : ℕ). inv_rounds INVSBOX w m (sixteen l.loop.s)) (sym none) ∙ e.1.1) begin c.before.unlast.ensures
-    ∙ ap (λ (q : List ℕ). inv_cipher INVSBOX (key_expansion SBOX (backwards SBOX 10 q)) b) o.ensures
+    ∙ ap₂ ◌++◌ c.before.before.unlast.ensures c.before.unlast2.ensures
+    ∙ unlast-halves a.t.now a.k.now 0 l.loop.x l.loop.y
+    ∙ ap (λ (v : List ℕ). add_round_key (sub_bytes a.t.now (inv_shift_rows v)) a.k.now 0)
+    (sym (invRounds-zero a.t.now a.k.now s) ∙ ap (λ (n : ℕ). inv_rounds a.t.now a.k.now n s) (sym none) ∙ l.loop.invariant.1
+    ∙ ap (inv_rounds a.t.now a.k.now 9) begin)
 
 pub decrypt-spec : {M : Type 1} → statement M
 decrypt-spec =
     tie.close
     (tie.spec invariant-loop decreases-loop
-    (λ c κs. search rules) (λ c κs. search rules) (λ c κs. search rules) loop-holds
-    (λ c κs. search rules) (λ c κs. search rules) (λ c κs. search rules) (λ c. omega arith) (λ c. omega arith) loop-again
-    (λ c κs. search rules) (λ c κs. search rules) (λ c κs. search rules) returns)
+    (λ c κs. search rules) (λ c κs. search rules) (λ c. (omega arith, refl)) (λ c. omega arith) (λ c κs. search rules) (λ c. omega arith) (λ c κs. search rules) (λ c. omega arith) (λ c. omega arith) loop-again (λ c κs. search rules) (λ c κs. search rules) (λ c κs. search rules) returns)

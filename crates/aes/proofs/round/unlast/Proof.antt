@@ -1,18 +1,16 @@
--- `aes::round::unlast` meets its contract: both halves of the state after it.
+-- `aes::round::unlast` meets its contract: the bytes of a sum are the sums of the bytes.
 -- Assumes nothing.
+use mathlib.Core.Path.{ap₂, ◌∙◌}
 use borrow.Author.Rules.{rules}
-use Rattle.aes_field.specs.Sbox.{INVSBOX}
-use Rattle.aes.proofs.Halves.{unlast-made}
+use Rattle.laws.specs.Bytes.{xorl}
+use Rattle.aes_field.proofs.Packing.{unpacked_xor}
 use Rattle.aes.proofs.round.unlast.Statement.{statement}
 use Rattle.aes.proofs.round.unlast.Tie as tie
 
 returns : tie.Need-returns
-returns c =
-    let q = c.before.before in
-    let u = q.before.before.before in
-    let a = u.before.args in
-    unlast-made INVSBOX a.s.x a.s.y a.k.x a.k.y _ _ _ _ u.unshifted.ensures q.before.unshifted2.ensures
-    q.before.before.inv-sub-bytes.ensures q.inv-sub-bytes2.ensures
+returns c = unpacked_xor 8 c.before.unsubstitute.result c.key.result ∙ ap₂ xorl c.before.unsubstitute.ensures c.key.ensures
 
 pub unlast-spec : {M : Type 1} → statement M
-unlast-spec = tie.close (tie.spec (λ c κs. search rules) (λ c κs. search rules) (λ c κs. search rules) (λ c κs. search rules) returns)
+unlast-spec =
+    tie.close
+    (tie.spec (λ c κs. search rules) (λ c κs. search rules) returns)

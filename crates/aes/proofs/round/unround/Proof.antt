@@ -1,18 +1,20 @@
--- `aes::round::unround` meets its contract: both halves of the state after it.
+-- `aes::round::unround` meets its contract: the bytes of a sum are the sums of the bytes.
 -- Assumes nothing.
+use mathlib.Core.Path.{ap, ap₂, ◌∙◌}
 use borrow.Author.Rules.{rules}
-use Rattle.aes_field.specs.Sbox.{INVSBOX}
-use Rattle.aes.proofs.Halves.{unround-made}
+use Rattle.laws.specs.Bytes.{xorl}
+use Rattle.aes_field.specs.Mix.{inv_mix_byte}
+use Rattle.aes_field.specs.Packed.{columns}
+use Rattle.aes_field.proofs.Packing.{unpacked_xor}
 use Rattle.aes.proofs.round.unround.Statement.{statement}
 use Rattle.aes.proofs.round.unround.Tie as tie
 
 returns : tie.Need-returns
 returns c =
-    let q = c.before.before.before.before in
-    let u = q.before.before.before in
-    let a = u.before.args in
-    unround-made INVSBOX a.s.x a.s.y a.k.x a.k.y _ _ _ _ u.unshifted.ensures q.before.unshifted2.ensures
-    q.before.before.inv-sub-bytes.ensures q.inv-sub-bytes2.ensures _ _ c.before.before.unmix.ensures c.unmix2.ensures
+    c.unmix.ensures
+    ∙ ap (columns inv_mix_byte) (unpacked_xor 8 c.before.before.unsubstitute.result c.before.key.result ∙ ap₂ xorl c.before.before.unsubstitute.ensures c.before.key.ensures)
 
 pub unround-spec : {M : Type 1} → statement M
-unround-spec = tie.close (tie.spec (λ c κs. search rules) (λ c κs. search rules) (λ c κs. search rules) (λ c κs. search rules) (λ c κs. search rules) (λ c κs. search rules) returns)
+unround-spec =
+    tie.close
+    (tie.spec (λ c κs. search rules) (λ c κs. search rules) (λ c κs. search rules) returns)

@@ -19,7 +19,7 @@ use Rattle.secure_cipher.proofs.cipher.decrypt_blocks.Tie as tie
 
 abbrev invariant-loop : tie.invariant-loop
 invariant-loop ct out₀ ready u n v₀ i₀ out v i =
-    (i ≤ n) × ((length out ≡ length out₀) × ((k : List ℕ) → length k ≡ 16 → ready ≡ decrypt_key encrypt_tables k → Laid out₀ (i * 16) (dec_rest k ct n i v) (dec_rest k ct n 0 v₀) out))
+    (i ≤ n) × ((length out ≡ length out₀) × ((k : List ℕ) → ready ≡ decrypt_key encrypt_tables k → Laid out₀ (i * 16) (dec_rest k ct n i v) (dec_rest k ct n 0 v₀) out))
 
 abbrev decreases-loop : tie.decreases-loop
 decreases-loop ct out₀ ready u n v₀ i₀ out v i = n - i
@@ -39,11 +39,11 @@ loop-again c =
       omega arith,
       (
         search rules,
-        λ k z h.
+        λ k h.
             laid_more x _ _ ((l.i + 1) * 16) m (omega arith) (omega arith)
             (cc (dec-more k p n l.i l.v b x d.before.loop-test.true d.block_at.ensures
-            (e.xor.ensures ∙ ap (λ (y : List ℕ). xorl y l.v) (deciphers encrypt_tables _ _ k b _ z refl s.decrypt-tables.ensures h e.before.decrypt.ensures))))
-            c.before.before.put.ensures (l.invariant.1.1 k z h),
+            (e.xor.ensures ∙ ap (λ (y : List ℕ). xorl y l.v) (deciphers encrypt_tables _ _ k b _ refl s.decrypt-tables.ensures h e.before.decrypt.ensures))))
+            c.before.before.put.ensures (l.invariant.1.1 k h),
       ),
     )
 
@@ -55,8 +55,7 @@ returns c =
     let p = a.ct.now in
     let n = length p / 16 in
     let h : s.before.decrypt-key.result ≡ decrypt_key encrypt_tables a.key = cc in
-    let size : length a.key ≡ 16 = search rules in
-    let q = l.invariant.1.1 a.key size h in
+    let q = l.invariant.1.1 a.key h in
     let z = dec_none a.key p n l.i l.v c.loop-test.false in
     let d = dec_all a.key p n a.iv refl in
     record {
@@ -69,6 +68,6 @@ pub decrypt-blocks-spec : {M : Type 1} → statement M
 decrypt-blocks-spec =
     tie.close
     (tie.spec invariant-loop decreases-loop
-    (λ c κs. search rules) (λ c κs. search rules) (λ c κs. search rules) (λ c. (omega arith, (refl, λ k z h. laid_none _ _ _ 0 refl refl)))
+    (λ c κs. search rules) (λ c κs. search rules) (λ c κs. search rules) (λ c. (omega arith, (refl, λ k h. laid_none _ _ _ 0 refl refl)))
     (λ c. omega arith) (λ c κs. omega arith) (λ c κs. search rules) (λ c κs. search rules) (λ c. omega arith) (λ c κs. omega arith) (λ c. omega arith) (λ c. omega arith)
     loop-again (λ c. c.before.loop.invariant.1.0) returns)
