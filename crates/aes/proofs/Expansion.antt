@@ -12,7 +12,7 @@ use Rattle.laws.specs.Bytes.{xorl}
 use Rattle.laws.proofs.Listed.{length_block_of, block_listed}
 use Rattle.aes_field.specs.Field.{◌⊕◌, xtime}
 use Rattle.aes.specs.KeyExpansion.{word, temp, power, words, key_expansion}
-use Rattle.aes.proofs.RoundKey.{keyByte, next_key}
+use Rattle.aes.proofs.RoundKey.{key_byte, next_key}
 
 -- words past p are words of what follows it
 word_past : (p x : List ℕ) (r j : ℕ) → length p ≡ 16 * r → word (p ++ x) (4 * r + j) ≡ word x j
@@ -58,7 +58,7 @@ module _ (t : List ℕ) where
 
   -- four words more are the next round key
   four : (r : ℕ) (g : ℕ → ℕ) → ext r 3 (ext r 2 (ext r 1 (ext r 0 (block_of g)))) ≡ block_of g ++ next_key t (power (r + 1 - 1)) (block_of g)
-  unfolding ext block_of next_key keyByte xorl ◌⊕◌
+  unfolding ext block_of next_key key_byte xorl ◌⊕◌
   four r g = refl
 
   pub grown : (r : ℕ) (k p x : List ℕ) → length p ≡ 16 * r → length x ≡ 16 → words t (4 * r) k ≡ p ++ x

@@ -12,7 +12,7 @@ use Rattle.laws.proofs.Listed.{block_listed}
 use Rattle.aes_field.specs.Field.{◌⊕◌}
 use Rattle.aes_field.specs.Packed.{packed, unpacked}
 use Rattle.aes_field.proofs.Packing.{unpacked_xor, placed, empty, drop_bytes, drop-bytes_is, byte}
-use Rattle.aes.proofs.RoundKey.{keyByte, next_key}
+use Rattle.aes.proofs.RoundKey.{key_byte, next_key}
 use Rattle.aes.specs.Halves.{key_turn, carry, part}
 
 -- the first column of l in the second's place
@@ -49,7 +49,7 @@ carry-packed x v =
 -- both halves of the round key after that of x and y
 next_halves : (t : List ℕ) (c x y : ℕ)
     → (let a = carry (unpacked 8 x) (key_turn t c (unpacked 8 y)) in a ++ carry (unpacked 8 y) (down a)) ≡ next_key t c (unpacked 8 x ++ unpacked 8 y)
-unfolding unpacked key_turn carry block_of keyByte next_key ◌⊕◌
+unfolding unpacked key_turn carry block_of key_byte next_key ◌⊕◌
 next_halves t c x y = simp xor_zero_r
 
 pub next_made : (t : List ℕ) (c x y v a b : ℕ) → a < 2 ^ 64
@@ -63,6 +63,6 @@ next_made t c x y v a b h ev ea eb =
     ∙ next_halves t c x y
 
 -- a key is its two halves
-pub key-halves : (key : List ℕ) → length key ≡ 16 → part key 0 ++ part key 8 ≡ key
+pub key_halves : (key : List ℕ) → length key ≡ 16 → part key 0 ++ part key 8 ≡ key
 unfolding part block_of
-key-halves key l = block_listed key l
+key_halves key l = block_listed key l

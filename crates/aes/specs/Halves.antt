@@ -6,15 +6,15 @@ use Rattle.std.specs.Prelude.{List, [], ◌∷◌, ℕ, ◌+◌, get_or}
 use Rattle.aes_field.specs.Field.{◌⊕◌}
 
 -- SUBBYTES and SHIFTROWS, with the table t
-unfoldable pub subShift : List ℕ → List ℕ → List ℕ → List ℕ
-subShift t l m =
+unfoldable pub sub_shift : List ℕ → List ℕ → List ℕ → List ℕ
+sub_shift t l m =
     let p : ℕ → ℕ = λ i. get_or t (get_or l i 0) 0 in
     let q : ℕ → ℕ = λ i. get_or t (get_or m i 0) 0 in
     p 0 ∷ p 5 ∷ q 2 ∷ q 7 ∷ p 4 ∷ q 1 ∷ q 6 ∷ p 3 ∷ []
 
 -- INVSHIFTROWS and INVSUBBYTES, with the inverse table t
-unfoldable pub unshiftSub : List ℕ → List ℕ → List ℕ → List ℕ
-unshiftSub t l m =
+unfoldable pub unshift_sub : List ℕ → List ℕ → List ℕ → List ℕ
+unshift_sub t l m =
     let p : ℕ → ℕ = λ i. get_or t (get_or l i 0) 0 in
     let q : ℕ → ℕ = λ i. get_or t (get_or m i 0) 0 in
     p 0 ∷ q 5 ∷ q 2 ∷ p 7 ∷ p 4 ∷ p 1 ∷ q 6 ∷ q 3 ∷ []

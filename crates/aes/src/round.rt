@@ -4,7 +4,7 @@ ghost use Rattle.std.specs.Prelude.{◌≡◌, ◌++◌, ◌≤◌, ◌%◌, get
 ghost use Rattle.laws.specs.Bytes.{xorl};
 ghost use Rattle.aes_field.specs.Mix.{mix_byte, inv_mix_byte};
 ghost use Rattle.aes_field.specs.Packed.{unpacked, columns};
-ghost use Rattle.aes.specs.Halves.{subShift, unshiftSub, part};
+ghost use Rattle.aes.specs.Halves.{sub_shift, unshift_sub, part};
 
 use aes_field::field;
 
@@ -17,7 +17,7 @@ pub(crate) fn sub(t: &[u8; 256], x: u64) -> u8
 
 // SubBytes and ShiftRows.
 fn substitute(t: &[u8; 256], x: u64, y: u64) -> u64
-    ensures { unpacked 8 result ≡ subShift t.now (unpacked 8 x) (unpacked 8 y) }
+    ensures { unpacked 8 result ≡ sub_shift t.now (unpacked 8 x) (unpacked 8 y) }
 {
     field::pack(
         sub(t, x),
@@ -33,7 +33,7 @@ fn substitute(t: &[u8; 256], x: u64, y: u64) -> u64
 
 // InvShiftRows and InvSubBytes, with the inverse table.
 fn unsubstitute(t: &[u8; 256], x: u64, y: u64) -> u64
-    ensures { unpacked 8 result ≡ unshiftSub t.now (unpacked 8 x) (unpacked 8 y) }
+    ensures { unpacked 8 result ≡ unshift_sub t.now (unpacked 8 x) (unpacked 8 y) }
 {
     field::pack(
         sub(t, x),
@@ -83,7 +83,7 @@ pub(crate) fn second(s: [u8; 16], w: &[u8; 176], at: usize) -> u64
 // A round of Cipher, with the half of its round key from `at` on.
 pub(crate) fn round(t: &[u8; 256], w: &[u8; 176], at: usize, x: u64, y: u64) -> u64
     requires { at ≤ 168 }
-    ensures { unpacked 8 result ≡ xorl (columns mix_byte (subShift t.now (unpacked 8 x) (unpacked 8 y))) (part w.now at) }
+    ensures { unpacked 8 result ≡ xorl (columns mix_byte (sub_shift t.now (unpacked 8 x) (unpacked 8 y))) (part w.now at) }
 {
     field::mix(substitute(t, x, y)) ^ key(w, at)
 }
@@ -91,7 +91,7 @@ pub(crate) fn round(t: &[u8; 256], w: &[u8; 176], at: usize, x: u64, y: u64) -> 
 // The last round, which mixes no columns.
 pub(crate) fn last(t: &[u8; 256], w: &[u8; 176], at: usize, x: u64, y: u64) -> u64
     requires { at ≤ 168 }
-    ensures { unpacked 8 result ≡ xorl (subShift t.now (unpacked 8 x) (unpacked 8 y)) (part w.now at) }
+    ensures { unpacked 8 result ≡ xorl (sub_shift t.now (unpacked 8 x) (unpacked 8 y)) (part w.now at) }
 {
     substitute(t, x, y) ^ key(w, at)
 }
@@ -99,7 +99,7 @@ pub(crate) fn last(t: &[u8; 256], w: &[u8; 176], at: usize, x: u64, y: u64) -> u
 // A round of InvCipher.
 pub(crate) fn unround(t: &[u8; 256], w: &[u8; 176], at: usize, x: u64, y: u64) -> u64
     requires { at ≤ 168 }
-    ensures { unpacked 8 result ≡ columns inv_mix_byte (xorl (unshiftSub t.now (unpacked 8 x) (unpacked 8 y)) (part w.now at)) }
+    ensures { unpacked 8 result ≡ columns inv_mix_byte (xorl (unshift_sub t.now (unpacked 8 x) (unpacked 8 y)) (part w.now at)) }
 {
     field::unmix(unsubstitute(t, x, y) ^ key(w, at))
 }
@@ -107,7 +107,7 @@ pub(crate) fn unround(t: &[u8; 256], w: &[u8; 176], at: usize, x: u64, y: u64) -
 // Its last round.
 pub(crate) fn unlast(t: &[u8; 256], w: &[u8; 176], at: usize, x: u64, y: u64) -> u64
     requires { at ≤ 168 }
-    ensures { unpacked 8 result ≡ xorl (unshiftSub t.now (unpacked 8 x) (unpacked 8 y)) (part w.now at) }
+    ensures { unpacked 8 result ≡ xorl (unshift_sub t.now (unpacked 8 x) (unpacked 8 y)) (part w.now at) }
 {
     unsubstitute(t, x, y) ^ key(w, at)
 }

@@ -13,7 +13,7 @@ use Rattle.aes_field.specs.Packed.{unpacked}
 use Rattle.aes.specs.KeyExpansion.{power, key_expansion}
 use Rattle.aes.proofs.RoundKey.{next_key}
 use Rattle.aes.specs.Halves.{part}
-use Rattle.aes.proofs.KeyHalves.{key-halves, next_made}
+use Rattle.aes.proofs.KeyHalves.{key_halves, next_made}
 use Rattle.aes.proofs.Expansion.{Expanded, power_next, expanded-none, expanded-more, expanded-all}
 use Rattle.aes.proofs.schedule.expand.Statement.{statement}
 use Rattle.aes.proofs.schedule.expand.Tie as tie
@@ -33,7 +33,7 @@ unfolding part
 begun c =
     let key = c.before.before.args.t2 in
     let l : length key ≡ 16 = search rules in
-    ap₂ ◌++◌ c.before.pack.ensures c.pack2.ensures ∙ key-halves key l
+    ap₂ ◌++◌ c.before.pack.ensures c.pack2.ensures ∙ key_halves key l
 
 loop-holds : tie.Need-loop-init invariant-loop decreases-loop
 unfolding power unpacked
