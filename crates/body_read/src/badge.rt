@@ -8,7 +8,7 @@ use super::body::Body;
 use super::lookup::rest;
 use super::reading::bytes_for;
 
-#[derive(Drop)]
+#[derive(Clone, Copy)]
 pub enum BadgeAnswer {
     Number(u64),
     NoNumber,

@@ -1,7 +1,7 @@
 // What a body says, as numbers. What has no fixed length stays in the payload, and is looked up there.
 use refusal::Refusal;
 
-#[derive(Drop)]
+#[derive(Clone, Copy)]
 pub enum Body {
     Ack,
     Nak {
@@ -35,7 +35,7 @@ pub enum Body {
     },
 }
 
-#[derive(Drop)]
+#[derive(Clone, Copy)]
 pub enum ReadAnswer {
     Good(Body),
     Refused(Refusal),

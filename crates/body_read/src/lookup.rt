@@ -93,14 +93,14 @@ pub fn rest(body: Body, payload: &[u8]) -> &[u8]
 }
 
 // A capability of a PDCAP.
-#[derive(Drop)]
+#[derive(Clone, Copy)]
 pub struct Triple {
     pub function: u8,
     pub compliance: u8,
     pub number: u8,
 }
 
-#[derive(Drop)]
+#[derive(Clone, Copy)]
 pub enum TripleAnswer {
     Of(Triple),
     NoTriple,

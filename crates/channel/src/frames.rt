@@ -10,7 +10,7 @@ use secure_session::{End, Session};
 use secure_unseal::PlaceAnswer;
 
 // What the seal answered at the sender and the unseal at the peer, the cipher calls of each, and both sessions after it.
-#[derive(Drop)]
+#[derive(Clone, Copy)]
 pub struct Transferred {
     pub sealed: LengthAnswer,
     pub seal_calls: usize,

@@ -9,7 +9,7 @@ use packet_head::{Address, ControlByte, ScsType, Sqn};
 use refusal::LengthAnswer;
 
 // What the building answered, and where the peer finds the message in what was sent.
-#[derive(Drop)]
+#[derive(Clone, Copy)]
 pub struct CarriedMessage {
     pub sent: LengthAnswer,
     pub start: usize,

@@ -15,7 +15,7 @@ use secure_unseal::PlaceAnswer;
 use shake::{Ends, Room, shake};
 
 // What is asked of a sealed frame, its payload apart.
-#[derive(Drop)]
+#[derive(Clone, Copy)]
 struct Asked {
     who: End,
     sqn: u8,
@@ -24,7 +24,7 @@ struct Asked {
 }
 
 // The end that sent a frame and the one that took it.
-#[derive(Drop)]
+#[derive(Clone, Copy)]
 struct Passed {
     from: Session,
     to: Session,

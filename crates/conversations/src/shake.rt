@@ -6,7 +6,7 @@ use refusal::LengthAnswer;
 use secure_session::Session;
 
 // Both ends of a conversation.
-#[derive(Drop)]
+#[derive(Clone, Copy)]
 pub(crate) struct Ends {
     pub controller: Session,
     pub reader: Session,
@@ -14,7 +14,7 @@ pub(crate) struct Ends {
 
 // How long the lent buffers are: just long enough for the largest frame that goes through them, longer, much longer, or too short for
 // any.
-#[derive(Drop)]
+#[derive(Clone, Copy)]
 pub(crate) enum Room {
     Exact,
     More,

@@ -7,7 +7,7 @@ use refusal::{LengthAnswer, Outcome, Refusal};
 
 // 0 and what was asked for, or the refusal's number and what it carries.
 #[repr(C)]
-#[derive(Drop)]
+#[derive(Clone, Copy)]
 pub struct CAnswer {
     pub refusal: u8,
     pub a: usize,

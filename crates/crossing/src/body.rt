@@ -13,7 +13,7 @@ use body_read::{BadgeAnswer, Body, ReadAnswer, TripleAnswer, badge_number, tripl
 
 // What the kind does not have is 0; all 0 beside a refusal. What follows the numbers stays in the payload, at the place of rest.
 #[repr(C)]
-#[derive(Drop)]
+#[derive(Clone, Copy)]
 pub struct CBody {
     pub answer: CAnswer,
     pub code: u8,
@@ -39,7 +39,7 @@ pub struct CBody {
 
 // Where there is none, all is 0.
 #[repr(C)]
-#[derive(Drop)]
+#[derive(Clone, Copy)]
 pub struct CTriple {
     pub there: bool,
     pub function: u8,

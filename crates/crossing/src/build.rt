@@ -9,7 +9,7 @@ use refusal::Refusal;
 
 // block is the control byte's flag; block_type is 0 where there is no block.
 #[repr(C)]
-#[derive(Drop)]
+#[derive(Clone, Copy)]
 pub struct CPacket {
     pub addr: u8,
     pub sqn: u8,
@@ -20,7 +20,7 @@ pub struct CPacket {
 }
 
 #[repr(C)]
-#[derive(Drop)]
+#[derive(Clone, Copy)]
 pub struct CMac {
     pub given: bool,
     pub b0: u8,
@@ -29,13 +29,13 @@ pub struct CMac {
     pub b3: u8,
 }
 
-#[derive(Drop)]
+#[derive(Clone, Copy)]
 pub(crate) enum Kind {
     Good(BuildBlock),
     Refused(Refusal),
 }
 
-#[derive(Drop)]
+#[derive(Clone, Copy)]
 pub enum AskedPacket {
     Good(PacketBuilder),
     Refused(Refusal),

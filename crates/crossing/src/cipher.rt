@@ -7,14 +7,14 @@ use secure_cipher::Ciphered;
 
 // How many bytes, and how often the cipher was called.
 #[repr(C)]
-#[derive(Drop)]
+#[derive(Clone, Copy)]
 pub struct CCiphered {
     pub answer: CAnswer,
     pub calls: usize,
 }
 
 #[repr(C)]
-#[derive(Drop)]
+#[derive(Clone, Copy)]
 pub struct CChain {
     pub full: [u8; 16],
     pub calls: usize,

@@ -9,7 +9,7 @@ use packet_head::{AddressAnswer, ControlAnswer, EncodedAnswer, ScsAnswer, SqnAns
 
 // A control byte, taken apart.
 #[repr(C)]
-#[derive(Drop)]
+#[derive(Clone, Copy)]
 pub struct CControl {
     pub answer: CAnswer,
     pub sqn: u8,

@@ -5,25 +5,25 @@ ghost use Rattle.crossing.specs.Ciphers.{c_keys};
 use secure_keys::SessionKeys;
 
 #[repr(C)]
-#[derive(Drop)]
+#[derive(Clone, Copy)]
 pub struct Bytes16 {
     pub bytes: [u8; 16],
 }
 
 #[repr(C)]
-#[derive(Drop)]
+#[derive(Clone, Copy)]
 pub struct Bytes8 {
     pub bytes: [u8; 8],
 }
 
 #[repr(C)]
-#[derive(Drop)]
+#[derive(Clone, Copy)]
 pub struct Bytes4 {
     pub bytes: [u8; 4],
 }
 
 #[repr(C)]
-#[derive(Drop)]
+#[derive(Clone, Copy)]
 pub struct CKeys {
     pub s_enc: [u8; 16],
     pub s_mac1: [u8; 16],

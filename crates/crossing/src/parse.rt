@@ -10,7 +10,7 @@ use packet_head::{ScbAnswer, Trailer};
 use packet_parse::{BlockPart, HeadAnswer, Parsed, mac_start};
 
 #[repr(C)]
-#[derive(Drop)]
+#[derive(Clone, Copy)]
 pub struct CBlock {
     pub answer: CAnswer,
     pub ty: u8,
@@ -18,7 +18,7 @@ pub struct CBlock {
 }
 
 #[repr(C)]
-#[derive(Drop)]
+#[derive(Clone, Copy)]
 pub struct CHead {
     pub answer: CAnswer,
     pub addr: u8,
@@ -30,7 +30,7 @@ pub struct CHead {
 
 // Each place is counted from the frame's first byte. No block has type 0, no MAC place 0.
 #[repr(C)]
-#[derive(Drop)]
+#[derive(Clone, Copy)]
 pub struct CParsed {
     pub answer: CAnswer,
     pub addr: u8,

@@ -15,7 +15,7 @@ use secure_session::Session;
 use secure_unseal::{PlaceAnswer, Unsealed};
 
 #[repr(C)]
-#[derive(Drop)]
+#[derive(Clone, Copy)]
 pub struct CToSeal {
     pub addr: u8,
     pub sqn: u8,
@@ -25,7 +25,7 @@ pub struct CToSeal {
 }
 
 #[repr(C)]
-#[derive(Drop)]
+#[derive(Clone, Copy)]
 pub struct CSealed {
     pub answer: CAnswer,
     pub calls: usize,
@@ -34,7 +34,7 @@ pub struct CSealed {
 
 // Where the payload stands; all 0 beside a refusal.
 #[repr(C)]
-#[derive(Drop)]
+#[derive(Clone, Copy)]
 pub struct CUnsealed {
     pub answer: CAnswer,
     pub in_work: bool,

@@ -16,7 +16,7 @@ use secure_session::{
 
 // end: 0 controller, 1 reader. state: 0 to 3, from Disconnected to Secure.
 #[repr(C)]
-#[derive(Drop)]
+#[derive(Clone, Copy)]
 pub struct CSession {
     pub end: u8,
     pub state: u8,
@@ -29,7 +29,7 @@ pub struct CSession {
 }
 
 #[repr(C)]
-#[derive(Drop)]
+#[derive(Clone, Copy)]
 pub struct CStepped {
     pub answer: CAnswer,
     pub session: CSession,
@@ -37,7 +37,7 @@ pub struct CStepped {
 
 // Beside a refusal the block is zeros.
 #[repr(C)]
-#[derive(Drop)]
+#[derive(Clone, Copy)]
 pub struct CSteppedBlock {
     pub answer: CAnswer,
     pub block: [u8; 16],
@@ -45,7 +45,7 @@ pub struct CSteppedBlock {
 }
 
 #[repr(C)]
-#[derive(Drop)]
+#[derive(Clone, Copy)]
 pub struct CBlockAnswer {
     pub answer: CAnswer,
     pub block: [u8; 16],
@@ -53,26 +53,26 @@ pub struct CBlockAnswer {
 
 // Beside a refusal the keys are zeros.
 #[repr(C)]
-#[derive(Drop)]
+#[derive(Clone, Copy)]
 pub struct CKeysAnswer {
     pub answer: CAnswer,
     pub keys: CKeys,
 }
 
-#[derive(Drop)]
+#[derive(Clone, Copy)]
 pub(crate) enum EndRead {
     Good(End),
     Refused(Refusal),
 }
 
-#[derive(Drop)]
+#[derive(Clone, Copy)]
 pub(crate) enum StateRead {
     Good(State),
     Refused(Refusal),
 }
 
 // Beside a refusal stand those of a controller that is Disconnected.
-#[derive(Drop)]
+#[derive(Clone, Copy)]
 pub(crate) struct Ends {
     pub(crate) outcome: Outcome,
     pub(crate) end: End,
@@ -80,7 +80,7 @@ pub(crate) struct Ends {
 }
 
 // Beside a refusal stands what C holds, as that of a controller that is Disconnected; it is not looked at.
-#[derive(Drop)]
+#[derive(Clone, Copy)]
 pub struct Taken {
     pub outcome: Outcome,
     pub session: Session,

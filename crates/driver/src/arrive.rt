@@ -12,7 +12,7 @@ pub(crate) const ROOM: usize = 1440;
 
 // What came of the next frame, and the parse of it. `Read`: as many bytes as are wanted. `Cut`: fewer, since the line ended; none where it
 // ended between frames. `TooLong`: more are wanted than the room holds.
-#[derive(Drop)]
+#[derive(Clone, Copy)]
 pub(crate) enum Arrival {
     Read { answer: Parsed, len: usize },
     Cut { answer: Parsed, len: usize },
@@ -21,7 +21,7 @@ pub(crate) enum Arrival {
 }
 
 // How many bytes are there: all that are wanted, or fewer, since the line ended.
-#[derive(Drop)]
+#[derive(Clone, Copy)]
 enum There {
     All(usize),
     Ended(usize),

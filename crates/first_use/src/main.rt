@@ -5,7 +5,7 @@ use packet::{Address, Parsed, Sqn};
 use refusal::{LengthAnswer, Outcome, Refusal};
 use secure::{Direction, PlaceAnswer, Session};
 
-#[derive(Drop)]
+#[derive(Clone, Copy)]
 struct Ends {
     outcome: Outcome,
     controller: Session,

@@ -5,7 +5,7 @@ ghost use Rattle.io.specs.Counts.{IsPrefixLen};
 use libc::{STDERR_FILENO, STDIN_FILENO};
 
 // How many bytes came, at the start of the buffer; none where `all` is false, since then something went wrong.
-#[derive(Drop)]
+#[derive(Clone, Copy)]
 pub struct Came {
     pub all: bool,
     pub len: usize,

@@ -11,13 +11,13 @@ use packet_head::{Address, ControlByte, MAC_LEN, ScsType};
 use refusal::LengthAnswer;
 
 // The security block's type; its data is lent beside it.
-#[derive(Drop)]
+#[derive(Clone, Copy)]
 pub enum BuildBlock {
     Absent,
     Of(ScsType),
 }
 
-#[derive(Drop)]
+#[derive(Clone, Copy)]
 pub enum GivenMac {
     Absent,
     Is(u8, u8, u8, u8),
@@ -34,7 +34,7 @@ impl GivenMac {
     }
 }
 
-#[derive(Drop)]
+#[derive(Clone, Copy)]
 pub struct PacketBuilder {
     pub addr: Address,
     pub ctrl: ControlByte,

@@ -14,7 +14,7 @@ use packet_head::{
 use refusal::Refusal;
 
 // How long the frame is, and its control byte.
-#[derive(Drop)]
+#[derive(Clone, Copy)]
 pub(crate) enum Tested {
     Total(usize, u8),
     Refused(Refusal),
@@ -34,7 +34,7 @@ fn if_on(on: bool, n: usize) -> usize
 }
 
 // Whether there is a block and whether a MAC is due; how many bytes of MAC, of the block's data, of data, and of room in the buffer.
-#[derive(Drop)]
+#[derive(Clone, Copy)]
 struct Sizes {
     has_block: bool,
     mac_due: bool,

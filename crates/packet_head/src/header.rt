@@ -7,10 +7,10 @@ use super::numbers::{BROADCAST_ADDR, MAX_SQN, REPLY_FLAG};
 use refusal::Refusal;
 
 // The address byte of a frame, with the reply flag.
-#[derive(Drop)]
+#[derive(Clone, Copy)]
 pub struct Address(u8);
 
-#[derive(Drop)]
+#[derive(Clone, Copy)]
 pub enum AddressAnswer {
     Good(Address),
     Refused(Refusal),
@@ -77,10 +77,10 @@ impl Address {
 }
 
 // A sequence number, 0 to 3.
-#[derive(Drop)]
+#[derive(Clone, Copy)]
 pub struct Sqn(u8);
 
-#[derive(Drop)]
+#[derive(Clone, Copy)]
 pub enum SqnAnswer {
     Good(Sqn),
     Refused(Refusal),
@@ -121,20 +121,20 @@ impl Sqn {
 }
 
 // The control byte, taken apart: the two flags as yes or no.
-#[derive(Drop)]
+#[derive(Clone, Copy)]
 pub struct ControlByte {
     pub sqn: Sqn,
     pub crc: bool,
     pub block: bool,
 }
 
-#[derive(Drop)]
+#[derive(Clone, Copy)]
 pub enum ControlAnswer {
     Good(ControlByte),
     Refused(Refusal),
 }
 
-#[derive(Drop)]
+#[derive(Clone, Copy)]
 pub enum EncodedAnswer {
     Byte(u8),
     Refused(Refusal),

@@ -7,7 +7,7 @@ use super::numbers::SCB_HEADER_LEN;
 use refusal::Refusal;
 
 // The type of a security block, 11 to 18.
-#[derive(Drop)]
+#[derive(Clone, Copy)]
 pub enum ScsType {
     Scs11,
     Scs12,
@@ -19,7 +19,7 @@ pub enum ScsType {
     Scs18,
 }
 
-#[derive(Drop)]
+#[derive(Clone, Copy)]
 pub enum ScsAnswer {
     Good(ScsType),
     Refused(Refusal),
@@ -78,13 +78,13 @@ impl ScsType {
 }
 
 // A block that was read: its type, and how many bytes of data follow its first two.
-#[derive(Drop)]
+#[derive(Clone, Copy)]
 pub struct Scb {
     pub ty: ScsType,
     pub data_len: u8,
 }
 
-#[derive(Drop)]
+#[derive(Clone, Copy)]
 pub enum ScbAnswer {
     Good(Scb),
     Refused(Refusal),

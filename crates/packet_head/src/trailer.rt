@@ -5,7 +5,7 @@ ghost use Rattle.packet_head.specs.Trailer.{tail, is_crc, trailer_len};
 
 use super::numbers::{CHECKSUM_LEN, CRC_LEN};
 
-#[derive(Drop)]
+#[derive(Clone, Copy)]
 pub enum Trailer {
     Checksum(u8),
     Crc(u16),

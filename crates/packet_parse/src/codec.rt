@@ -15,20 +15,20 @@ use refusal::Refusal;
 use slices::word;
 
 // What the first five bytes say.
-#[derive(Drop)]
+#[derive(Clone, Copy)]
 pub struct FrameHead {
     pub addr: Address,
     pub len: usize,
     pub ctrl: ControlByte,
 }
 
-#[derive(Drop)]
+#[derive(Clone, Copy)]
 pub enum HeadAnswer {
     Good(FrameHead),
     Refused(Refusal),
 }
 
-#[derive(Drop)]
+#[derive(Clone, Copy)]
 pub enum BlockPart {
     Absent,
     At {
@@ -38,7 +38,7 @@ pub enum BlockPart {
     },
 }
 
-#[derive(Drop)]
+#[derive(Clone, Copy)]
 pub enum MacPart {
     Absent,
     At(usize),
@@ -46,7 +46,7 @@ pub enum MacPart {
 
 // A frame that was read. Each place is counted from the frame's first byte. `len` is not the last field, because the compiler would
 // make one store of it and of a refusal's last number, and then keep the whole answer in memory.
-#[derive(Drop)]
+#[derive(Clone, Copy)]
 pub struct ParsedPacket {
     pub addr: Address,
     pub ctrl: ControlByte,
@@ -59,7 +59,7 @@ pub struct ParsedPacket {
     pub trailer: Trailer,
 }
 
-#[derive(Drop)]
+#[derive(Clone, Copy)]
 pub enum Parsed {
     Good(ParsedPacket),
     Refused(Refusal),

@@ -7,7 +7,7 @@ use packet_head::{CHECKSUM_LEN, CRC_LEN, Trailer};
 use refusal::Refusal;
 use slices::word;
 
-#[derive(Drop)]
+#[derive(Clone, Copy)]
 pub(crate) enum TrailerAnswer {
     Good(Trailer),
     Refused(Refusal),

@@ -9,14 +9,14 @@ use packet_head::{Address, ControlByte, MAC_LEN, ScsType, Sqn, Trailer};
 use packet_parse::{BlockPart, MacPart, Parsed, ParsedPacket, parse};
 use refusal::{Outcome, Refusal};
 
-#[derive(Drop)]
+#[derive(Clone, Copy)]
 pub enum BlockKind {
     Absent,
     Present(ScsType),
 }
 
 // Each place is counted from the frame's first byte. A part that is not there has the length 0.
-#[derive(Drop)]
+#[derive(Clone, Copy)]
 pub struct Places {
     pub outcome: Outcome,
     pub addr: Address,
@@ -33,7 +33,7 @@ pub struct Places {
     pub mac_len: usize,
 }
 
-#[derive(Drop)]
+#[derive(Clone, Copy)]
 struct Span {
     at: usize,
     len: usize,

@@ -10,7 +10,7 @@ use packet_head::{Address, ControlByte, Trailer};
 use refusal::Outcome;
 use slices::part;
 
-#[derive(Drop)]
+#[derive(Clone, Copy)]
 pub struct PacketView<'a> {
     pub frame: &'a [u8],
     pub outcome: Outcome,

@@ -3,7 +3,7 @@ ghost use Rattle.std.specs.Prelude.{◌≡◌};
 ghost use Rattle.refusal.specs.Paper.{number_of, numbered_of};
 
 // The cases stand in the order of their numbers, from 1 on.
-#[derive(Drop)]
+#[derive(Clone, Copy)]
 pub enum Refusal {
     Truncated { have: usize, need: usize },
     BadSom(u8),
@@ -27,21 +27,21 @@ pub enum Refusal {
 }
 
 // What a call answers that has nothing else to give.
-#[derive(Drop)]
+#[derive(Clone, Copy)]
 pub enum Outcome {
     Done,
     Refused(Refusal),
 }
 
 // What a call answers that gives a number of bytes.
-#[derive(Drop)]
+#[derive(Clone, Copy)]
 pub enum LengthAnswer {
     Of(usize),
     Refused(Refusal),
 }
 
 // A refusal as numbers: its own, and the two values that it carries; 0 stands for one that it does not carry.
-#[derive(Drop)]
+#[derive(Clone, Copy)]
 pub struct Numbered {
     pub number: u8,
     pub a: usize,

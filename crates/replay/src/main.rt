@@ -46,7 +46,7 @@ fn more(n: u64) -> u64 {
 
 // Where the next case or the next part begins, and how many of the cases before it agree. There is no next one where it is
 // `over`: what is wrong has been said.
-#[derive(Drop)]
+#[derive(Clone, Copy)]
 struct Seen {
     at: usize,
     right: u64,

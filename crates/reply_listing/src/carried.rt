@@ -6,7 +6,7 @@ ghost use Rattle.reply_listing.specs.InClear.{reply_in, reply_told};
 use body_read::ReadAnswer;
 use packet_parse::{MacPart, ParsedPacket};
 
-#[derive(Drop)]
+#[derive(Clone, Copy)]
 pub(crate) enum Reply {
     NoReply,
     Sealed,

@@ -8,7 +8,7 @@ use body_read::ReadAnswer;
 
 // How many bytes were frames; how many frames had a reply in the clear, and how many of those a body that is refused; how many had a
 // sealed reply.
-#[derive(Drop)]
+#[derive(Clone, Copy)]
 pub struct Tally {
     pub bytes: usize,
     pub replies: usize,

@@ -11,7 +11,7 @@ use super::{block, pad};
 use refusal::{LengthAnswer, Refusal};
 
 // What a call answers, and how often it called the cipher.
-#[derive(Drop)]
+#[derive(Clone, Copy)]
 pub struct Ciphered {
     pub answer: LengthAnswer,
     pub calls: usize,

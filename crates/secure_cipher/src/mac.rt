@@ -9,7 +9,7 @@ ghost use Rattle.secure_cipher.specs.Parts.{chained};
 use super::{block, pad};
 
 // The full MAC, and how often the cipher was called.
-#[derive(Drop)]
+#[derive(Clone, Copy)]
 pub struct ChainMac {
     pub full: [u8; 16],
     pub calls: usize,

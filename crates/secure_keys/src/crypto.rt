@@ -33,7 +33,7 @@ fn session_key(t: &aes::EncryptTables, k: &aes::EncryptKey, tag: u8, a: [u8; 8])
     aes::encrypt(t, k, key_template(tag, a))
 }
 
-#[derive(Drop)]
+#[derive(Clone, Copy)]
 pub struct SessionKeys {
     pub s_enc: [u8; 16],
     pub s_mac1: [u8; 16],

@@ -13,14 +13,14 @@ use secure_session::{BlockAnswer, Session};
 use secure_unseal::PlaceAnswer;
 
 // How long the frame is; how often the cipher was called.
-#[derive(Drop)]
+#[derive(Clone, Copy)]
 pub struct SealedLent {
     pub answer: LengthAnswer,
     pub calls: usize,
 }
 
 // Where the payload stands; how often the cipher was called.
-#[derive(Drop)]
+#[derive(Clone, Copy)]
 pub struct UnsealedLent {
     pub answer: PlaceAnswer,
     pub calls: usize,

@@ -18,7 +18,7 @@ use refusal::{LengthAnswer, Refusal};
 use secure_session::Session;
 
 // Who sends, as the caller names it.
-#[derive(Drop)]
+#[derive(Clone, Copy)]
 pub enum Direction {
     AcuToPd,
     PdToAcu,
@@ -48,7 +48,7 @@ impl Direction {
 }
 
 // How long the frame is; how often the cipher was called; the session after it.
-#[derive(Drop)]
+#[derive(Clone, Copy)]
 pub struct Sealed {
     pub answer: LengthAnswer,
     pub calls: usize,

@@ -7,7 +7,7 @@ use super::session::Session;
 use secure_cipher::ChainMac;
 
 // The last full MAC, of whichever end.
-#[derive(Drop)]
+#[derive(Clone, Copy)]
 pub struct Chain {
     value: [u8; 16],
 }

@@ -9,7 +9,7 @@ use super::session::{End, Session, State};
 use secure_keys::SessionKeys;
 
 // What a session holds, open.
-#[derive(Drop)]
+#[derive(Clone, Copy)]
 pub struct SessionFields {
     pub end: End,
     pub state: State,

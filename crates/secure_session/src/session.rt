@@ -10,13 +10,13 @@ use super::chain::Chain;
 use refusal::{Outcome, Refusal};
 use secure_keys::SessionKeys;
 
-#[derive(Drop)]
+#[derive(Clone, Copy)]
 pub enum End {
     Controller,
     Reader,
 }
 
-#[derive(Drop)]
+#[derive(Clone, Copy)]
 pub enum State {
     Disconnected,
     Challenged,
@@ -25,7 +25,7 @@ pub enum State {
 }
 
 // Its fields are closed: from outside a session is made and moved by its calls alone.
-#[derive(Drop)]
+#[derive(Clone, Copy)]
 pub struct Session {
     pub(crate) end: End,
     pub(crate) state: State,
@@ -38,14 +38,14 @@ pub struct Session {
 }
 
 // A call that answers yes or a refusal, and hands the session back.
-#[derive(Drop)]
+#[derive(Clone, Copy)]
 pub struct Stepped {
     pub outcome: Outcome,
     pub session: Session,
 }
 
 // A call that answers a block beside its outcome.
-#[derive(Drop)]
+#[derive(Clone, Copy)]
 pub struct SteppedBlock {
     pub outcome: Outcome,
     pub block: [u8; 16],
@@ -53,13 +53,13 @@ pub struct SteppedBlock {
 }
 
 // The same where the session stays.
-#[derive(Drop)]
+#[derive(Clone, Copy)]
 pub struct BlockAnswer {
     pub outcome: Outcome,
     pub block: [u8; 16],
 }
 
-#[derive(Drop)]
+#[derive(Clone, Copy)]
 pub struct KeysAnswer {
     pub outcome: Outcome,
     pub keys: SessionKeys,

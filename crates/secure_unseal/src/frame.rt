@@ -18,7 +18,7 @@ use secure_cipher::Ciphered;
 use secure_session::{Session, Stepped};
 
 // Where an opened payload stands: in the work buffer or in the frame.
-#[derive(Drop)]
+#[derive(Clone, Copy)]
 pub enum PlaceAnswer {
     Payload {
         in_work: bool,
@@ -29,7 +29,7 @@ pub enum PlaceAnswer {
 }
 
 // The place; how often the cipher was called; the session after it.
-#[derive(Drop)]
+#[derive(Clone, Copy)]
 pub struct Unsealed {
     pub answer: PlaceAnswer,
     pub calls: usize,
