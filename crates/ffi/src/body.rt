@@ -6,16 +6,14 @@ ghost use Rattle.crossing.specs.Bodies.{c_body, c_triple_at};
 use body_read::read;
 use crossing::{CBody, CTriple, body_c, triple_c};
 
-#[unsafe(no_mangle)]
-pub extern "C" fn malstrink_read_body(code: u8, payload: &[u8]) -> CBody
+pub fn malstrink_read_body(code: u8, payload: &[u8]) -> CBody
     ensures { result ≡ c_body (length payload.now) (read_of code payload.now) }
 {
     body_c(read(code, payload), payload)
 }
 
 // The body is read anew; i counts from 0.
-#[unsafe(no_mangle)]
-pub extern "C" fn malstrink_triple(code: u8, payload: &[u8], i: usize) -> CTriple
+pub fn malstrink_triple(code: u8, payload: &[u8], i: usize) -> CTriple
     ensures { result ≡ c_triple_at i (read_of code payload.now) }
 {
     triple_c(read(code, payload), payload, i)

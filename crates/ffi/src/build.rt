@@ -8,14 +8,7 @@ ghost use Rattle.ffi.specs.Building.{build_arg, body_arg};
 use crossing::{AskedPacket, CAnswer, CMac, CPacket, ask, length_c, mac_of, refused};
 
 // The frame into out; the answer is how many bytes it has.
-#[unsafe(no_mangle)]
-pub extern "C" fn malstrink_build(
-    p: CPacket,
-    block: &[u8],
-    data: &[u8],
-    mac: CMac,
-    out: &mut [u8],
-) -> CAnswer
+pub fn malstrink_build(p: CPacket, block: &[u8], data: &[u8], mac: CMac, out: &mut [u8]) -> CAnswer
     ensures value { result ≡ c_answer (sized (build_arg p block.now «data».now (mac_arg mac) (length out.old))) }
     ensures out_after { out.new ≡ written out.old (build_arg p block.now «data».now (mac_arg mac) (length out.old)) }
 {
@@ -26,13 +19,7 @@ pub extern "C" fn malstrink_build(
 }
 
 // What a MAC is worked out over, from 53 to the end of data, into out.
-#[unsafe(no_mangle)]
-pub extern "C" fn malstrink_build_body(
-    p: CPacket,
-    block: &[u8],
-    data: &[u8],
-    out: &mut [u8],
-) -> CAnswer
+pub fn malstrink_build_body(p: CPacket, block: &[u8], data: &[u8], out: &mut [u8]) -> CAnswer
     ensures value { result ≡ c_answer (sized (body_arg p block.now «data».now (length out.old))) }
     ensures out_after { out.new ≡ written out.old (body_arg p block.now «data».now (length out.old)) }
 {

@@ -36,8 +36,7 @@ fn no_ciphered(e: Refusal) -> CCiphered
 }
 
 // The MAC of bytes that are sent, in full.
-#[unsafe(no_mangle)]
-pub extern "C" fn malstrink_session_mac(s: CSession, bytes: &[u8]) -> CSteppedBlock
+pub fn malstrink_session_mac(s: CSession, bytes: &[u8]) -> CSteppedBlock
     ensures { result ≡ stepped_block_arg s (λ x. make_mac x bytes.now) }
 {
     let t = take(s);
@@ -50,8 +49,7 @@ pub extern "C" fn malstrink_session_mac(s: CSession, bytes: &[u8]) -> CSteppedBl
 }
 
 // The four bytes of MAC that came with bytes.
-#[unsafe(no_mangle)]
-pub extern "C" fn malstrink_session_verify(s: CSession, bytes: &[u8], wire_mac: Bytes4) -> CStepped
+pub fn malstrink_session_verify(s: CSession, bytes: &[u8], wire_mac: Bytes4) -> CStepped
     ensures { result ≡ stepped_arg s (λ x. verify_of x bytes.now wire_mac.bytes) }
 {
     let t = take(s);
@@ -66,8 +64,7 @@ pub extern "C" fn malstrink_session_verify(s: CSession, bytes: &[u8], wire_mac: 
     }
 }
 
-#[unsafe(no_mangle)]
-pub extern "C" fn malstrink_session_keys(s: CSession) -> CKeysAnswer
+pub fn malstrink_session_keys(s: CSession) -> CKeysAnswer
     ensures { result ≡ keys_answer_arg s keys_of }
 {
     let t = take(s);
@@ -80,8 +77,7 @@ pub extern "C" fn malstrink_session_keys(s: CSession) -> CKeysAnswer
 }
 
 // The chain value that a MAC made next starts from.
-#[unsafe(no_mangle)]
-pub extern "C" fn malstrink_session_last_other_mac(s: CSession) -> CBlockAnswer
+pub fn malstrink_session_last_other_mac(s: CSession) -> CBlockAnswer
     ensures { result ≡ block_answer_arg s last_other_mac_of }
 {
     let t = take(s);
@@ -93,8 +89,7 @@ pub extern "C" fn malstrink_session_last_other_mac(s: CSession) -> CBlockAnswer
     }
 }
 
-#[unsafe(no_mangle)]
-pub extern "C" fn malstrink_session_seal_data(s: CSession, data: &[u8], out: &mut [u8]) -> CCiphered
+pub fn malstrink_session_seal_data(s: CSession, data: &[u8], out: &mut [u8]) -> CCiphered
     ensures value { result ≡ c_done (done_arg s out.old (λ x. seal_data_of x «data».now out.old)) }
     ensures out_after { out.new ≡ (done_arg s out.old (λ x. seal_data_of x «data».now out.old)).out }
 {
@@ -107,8 +102,7 @@ pub extern "C" fn malstrink_session_seal_data(s: CSession, data: &[u8], out: &mu
     }
 }
 
-#[unsafe(no_mangle)]
-pub extern "C" fn malstrink_session_open_data(s: CSession, data: &[u8], out: &mut [u8]) -> CCiphered
+pub fn malstrink_session_open_data(s: CSession, data: &[u8], out: &mut [u8]) -> CCiphered
     ensures value { result ≡ c_done (done_arg s out.old (λ x. open_data_of x «data».now out.old)) }
     ensures out_after { out.new ≡ (done_arg s out.old (λ x. open_data_of x «data».now out.old)).out }
 {

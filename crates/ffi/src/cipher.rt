@@ -10,31 +10,27 @@ ghost use Rattle.crossing.specs.Ciphers.{c_done, c_chain};
 
 use crossing::{Bytes16, CAnswer, CChain, CCiphered, ciphered_c, length_c};
 
-#[unsafe(no_mangle)]
-pub extern "C" fn malstrink_pad_mac(data: &[u8], out: &mut [u8]) -> CAnswer
+pub fn malstrink_pad_mac(data: &[u8], out: &mut [u8]) -> CAnswer
     ensures value { result ≡ c_answer (sized (fitting (pad_mac «data».now) (length out.old))) }
     ensures out_after { out.new ≡ written out.old (fitting (pad_mac «data».now) (length out.old)) }
 {
     length_c(secure_cipher::pad_mac(data, out))
 }
 
-#[unsafe(no_mangle)]
-pub extern "C" fn malstrink_pad_data(data: &[u8], out: &mut [u8]) -> CAnswer
+pub fn malstrink_pad_data(data: &[u8], out: &mut [u8]) -> CAnswer
     ensures value { result ≡ c_answer (sized (fitting (pad_data «data».now) (length out.old))) }
     ensures out_after { out.new ≡ written out.old (fitting (pad_data «data».now) (length out.old)) }
 {
     length_c(secure_cipher::pad_data(data, out))
 }
 
-#[unsafe(no_mangle)]
-pub extern "C" fn malstrink_unpad_data(bytes: &[u8]) -> CAnswer
+pub fn malstrink_unpad_data(bytes: &[u8]) -> CAnswer
     ensures { result ≡ c_answer (unpad bytes.now) }
 {
     length_c(secure_cipher::unpad_data(bytes))
 }
 
-#[unsafe(no_mangle)]
-pub extern "C" fn malstrink_complement_icv(mac: Bytes16) -> Bytes16
+pub fn malstrink_complement_icv(mac: Bytes16) -> Bytes16
     ensures { result.bytes ≡ compl mac.bytes }
 {
     let m = mac.bytes;
@@ -42,13 +38,7 @@ pub extern "C" fn malstrink_complement_icv(mac: Bytes16) -> Bytes16
     Bytes16 { bytes: c }
 }
 
-#[unsafe(no_mangle)]
-pub extern "C" fn malstrink_cbc_mac(
-    input: &[u8],
-    icv: Bytes16,
-    s_mac1: Bytes16,
-    s_mac2: Bytes16,
-) -> CChain
+pub fn malstrink_cbc_mac(input: &[u8], icv: Bytes16, s_mac1: Bytes16, s_mac2: Bytes16) -> CChain
     ensures { result ≡ c_chain (mac_of s_mac1.bytes s_mac2.bytes icv.bytes input.now) }
 {
     let v = icv.bytes;
@@ -62,13 +52,7 @@ pub extern "C" fn malstrink_cbc_mac(
     }
 }
 
-#[unsafe(no_mangle)]
-pub extern "C" fn malstrink_encrypt_data(
-    s_enc: Bytes16,
-    iv: Bytes16,
-    data: &[u8],
-    out: &mut [u8],
-) -> CCiphered
+pub fn malstrink_encrypt_data(s_enc: Bytes16, iv: Bytes16, data: &[u8], out: &mut [u8]) -> CCiphered
     ensures value { result ≡ c_done (encrypt_of s_enc.bytes iv.bytes «data».now out.old) }
     ensures out_after { out.new ≡ (encrypt_of s_enc.bytes iv.bytes «data».now out.old).out }
 {
@@ -77,13 +61,7 @@ pub extern "C" fn malstrink_encrypt_data(
     ciphered_c(secure_cipher::encrypt_data(k, v, data, out))
 }
 
-#[unsafe(no_mangle)]
-pub extern "C" fn malstrink_decrypt_data(
-    s_enc: Bytes16,
-    iv: Bytes16,
-    data: &[u8],
-    out: &mut [u8],
-) -> CCiphered
+pub fn malstrink_decrypt_data(s_enc: Bytes16, iv: Bytes16, data: &[u8], out: &mut [u8]) -> CCiphered
     ensures value { result ≡ c_done (decrypt_of s_enc.bytes iv.bytes «data».now out.old) }
     ensures out_after { out.new ≡ (decrypt_of s_enc.bytes iv.bytes «data».now out.old).out }
 {

@@ -8,29 +8,25 @@ ghost use Rattle.crossing.specs.Answers.{c_answer, c_control};
 use crossing::{CAnswer, CControl, address_c, control_c, encoded_c, refused, scs_c, sqn_c};
 use packet_head::{Address, ControlByte, ScsType, Sqn, SqnAnswer};
 
-#[unsafe(no_mangle)]
-pub extern "C" fn malstrink_address_pd(addr: u8) -> CAnswer
+pub fn malstrink_address_pd(addr: u8) -> CAnswer
     ensures { result ≡ c_answer (pd_of addr) }
 {
     address_c(Address::pd(addr))
 }
 
-#[unsafe(no_mangle)]
-pub extern "C" fn malstrink_address_reply(addr: u8) -> CAnswer
+pub fn malstrink_address_reply(addr: u8) -> CAnswer
     ensures { result ≡ c_answer (reply_of addr) }
 {
     address_c(Address::reply(addr))
 }
 
-#[unsafe(no_mangle)]
-pub extern "C" fn malstrink_sqn_new(n: u8) -> CAnswer
+pub fn malstrink_sqn_new(n: u8) -> CAnswer
     ensures { result ≡ c_answer (sqn_of n) }
 {
     sqn_c(Sqn::new(n))
 }
 
-#[unsafe(no_mangle)]
-pub extern "C" fn malstrink_sqn_next(n: u8) -> CAnswer
+pub fn malstrink_sqn_next(n: u8) -> CAnswer
     ensures { result ≡ c_answer (and_then (sqn_of n) next_of) }
 {
     match Sqn::new(n) {
@@ -39,15 +35,13 @@ pub extern "C" fn malstrink_sqn_next(n: u8) -> CAnswer
     }
 }
 
-#[unsafe(no_mangle)]
-pub extern "C" fn malstrink_control_decode(byte: u8) -> CControl
+pub fn malstrink_control_decode(byte: u8) -> CControl
     ensures { result ≡ c_control (control_of byte) }
 {
     control_c(ControlByte::decode(byte))
 }
 
-#[unsafe(no_mangle)]
-pub extern "C" fn malstrink_control_encode(sqn: u8, crc: bool, block: bool) -> CAnswer
+pub fn malstrink_control_encode(sqn: u8, crc: bool, block: bool) -> CAnswer
     ensures { result ≡ c_answer (and_then (sqn_of sqn) (λ n. encode_of (record { sqn = n; crc = crc; block = block }))) }
 {
     match Sqn::new(sqn) {
@@ -56,8 +50,7 @@ pub extern "C" fn malstrink_control_encode(sqn: u8, crc: bool, block: bool) -> C
     }
 }
 
-#[unsafe(no_mangle)]
-pub extern "C" fn malstrink_scs_type(byte: u8) -> CAnswer
+pub fn malstrink_scs_type(byte: u8) -> CAnswer
     ensures { result ≡ c_answer (scs_of byte) }
 {
     scs_c(ScsType::from_byte(byte))

@@ -7,8 +7,7 @@ ghost use Rattle.crossing.specs.Ciphers.{c_keys};
 use crossing::{Bytes8, Bytes16, CKeys, keys_c};
 use secure_keys::SessionKeys;
 
-#[unsafe(no_mangle)]
-pub extern "C" fn malstrink_aes_encrypt(key: Bytes16, block: Bytes16) -> Bytes16
+pub fn malstrink_aes_encrypt(key: Bytes16, block: Bytes16) -> Bytes16
     ensures { result.bytes ≡ E key.bytes block.bytes }
 {
     let k = key.bytes;
@@ -17,8 +16,7 @@ pub extern "C" fn malstrink_aes_encrypt(key: Bytes16, block: Bytes16) -> Bytes16
     Bytes16 { bytes: c }
 }
 
-#[unsafe(no_mangle)]
-pub extern "C" fn malstrink_aes_decrypt(key: Bytes16, block: Bytes16) -> Bytes16
+pub fn malstrink_aes_decrypt(key: Bytes16, block: Bytes16) -> Bytes16
     ensures { result.bytes ≡ D key.bytes block.bytes }
 {
     let k = key.bytes;
@@ -27,8 +25,7 @@ pub extern "C" fn malstrink_aes_decrypt(key: Bytes16, block: Bytes16) -> Bytes16
     Bytes16 { bytes: c }
 }
 
-#[unsafe(no_mangle)]
-pub extern "C" fn malstrink_derive(scbk: Bytes16, rnd_a: Bytes8) -> CKeys
+pub fn malstrink_derive(scbk: Bytes16, rnd_a: Bytes8) -> CKeys
     ensures { result ≡ c_keys (derive scbk.bytes rnd_a.bytes) }
 {
     let k = scbk.bytes;
@@ -36,12 +33,7 @@ pub extern "C" fn malstrink_derive(scbk: Bytes16, rnd_a: Bytes8) -> CKeys
     keys_c(SessionKeys::derive(k, a))
 }
 
-#[unsafe(no_mangle)]
-pub extern "C" fn malstrink_client_cryptogram(
-    s_enc: Bytes16,
-    rnd_a: Bytes8,
-    rnd_b: Bytes8,
-) -> Bytes16
+pub fn malstrink_client_cryptogram(s_enc: Bytes16, rnd_a: Bytes8, rnd_b: Bytes8) -> Bytes16
     ensures { result.bytes ≡ client_of s_enc.bytes rnd_a.bytes rnd_b.bytes }
 {
     let k = s_enc.bytes;
@@ -51,12 +43,7 @@ pub extern "C" fn malstrink_client_cryptogram(
     Bytes16 { bytes: c }
 }
 
-#[unsafe(no_mangle)]
-pub extern "C" fn malstrink_server_cryptogram(
-    s_enc: Bytes16,
-    rnd_a: Bytes8,
-    rnd_b: Bytes8,
-) -> Bytes16
+pub fn malstrink_server_cryptogram(s_enc: Bytes16, rnd_a: Bytes8, rnd_b: Bytes8) -> Bytes16
     ensures { result.bytes ≡ server_of s_enc.bytes rnd_a.bytes rnd_b.bytes }
 {
     let k = s_enc.bytes;
@@ -66,12 +53,7 @@ pub extern "C" fn malstrink_server_cryptogram(
     Bytes16 { bytes: c }
 }
 
-#[unsafe(no_mangle)]
-pub extern "C" fn malstrink_initial_rmac(
-    s_mac1: Bytes16,
-    s_mac2: Bytes16,
-    server: Bytes16,
-) -> Bytes16
+pub fn malstrink_initial_rmac(s_mac1: Bytes16, s_mac2: Bytes16, server: Bytes16) -> Bytes16
     ensures { result.bytes ≡ first_of s_mac1.bytes s_mac2.bytes server.bytes }
 {
     let k1 = s_mac1.bytes;
@@ -81,8 +63,7 @@ pub extern "C" fn malstrink_initial_rmac(
     Bytes16 { bytes: c }
 }
 
-#[unsafe(no_mangle)]
-pub extern "C" fn malstrink_diversify_scbk_legacy(mk: Bytes16, cuid: Bytes8) -> Bytes16
+pub fn malstrink_diversify_scbk_legacy(mk: Bytes16, cuid: Bytes8) -> Bytes16
     ensures { result.bytes ≡ legacy_of mk.bytes cuid.bytes }
 {
     let k = mk.bytes;

@@ -1,4 +1,4 @@
-// The C face: every answer is a number and values, every slice a pointer and a length.
+// The C face, as a library: every answer is a number and values, every slice a pointer and a length. ffi_c exports these calls to C.
 mod body;
 mod build;
 mod channel;

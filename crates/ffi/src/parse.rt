@@ -9,22 +9,19 @@ use packet_head::Scb;
 use packet_parse::{head, parse};
 
 // The block at the start of a frame's part from byte 5 on.
-#[unsafe(no_mangle)]
-pub extern "C" fn malstrink_block(bytes: &[u8]) -> CBlock
+pub fn malstrink_block(bytes: &[u8]) -> CBlock
     ensures { result ≡ c_block (scb_of bytes.now) }
 {
     block_c(Scb::parse(bytes))
 }
 
-#[unsafe(no_mangle)]
-pub extern "C" fn malstrink_head(bytes: &[u8]) -> CHead
+pub fn malstrink_head(bytes: &[u8]) -> CHead
     ensures { result ≡ c_head (head_of bytes.now) }
 {
     head_c(head(bytes))
 }
 
-#[unsafe(no_mangle)]
-pub extern "C" fn malstrink_parse(bytes: &[u8]) -> CParsed
+pub fn malstrink_parse(bytes: &[u8]) -> CParsed
     ensures { result ≡ c_parsed (parse_of bytes.now) }
 {
     parsed_c(parse(bytes))

@@ -27,8 +27,7 @@ fn no_payload(s: CSession, e: Refusal) -> CUnsealed
 }
 
 // The frame into out; the answer is how many bytes it has.
-#[unsafe(no_mangle)]
-pub extern "C" fn malstrink_seal(s: CSession, p: CToSeal, data: &[u8], out: &mut [u8]) -> CSealed
+pub fn malstrink_seal(s: CSession, p: CToSeal, data: &[u8], out: &mut [u8]) -> CSealed
     ensures value { result ≡ (seal_arg s p «data».now out.old).told }
     ensures out_after { out.new ≡ (seal_arg s p «data».now out.old).out }
 {
@@ -46,8 +45,7 @@ pub extern "C" fn malstrink_seal(s: CSession, p: CToSeal, data: &[u8], out: &mut
 }
 
 // An encrypted payload is laid into work.
-#[unsafe(no_mangle)]
-pub extern "C" fn malstrink_unseal(s: CSession, frame: &[u8], work: &mut [u8]) -> CUnsealed
+pub fn malstrink_unseal(s: CSession, frame: &[u8], work: &mut [u8]) -> CUnsealed
     ensures value { result ≡ (unseal_arg s frame.now work.old).told }
     ensures work_after { work.new ≡ (unseal_arg s frame.now work.old).work }
 {
@@ -60,8 +58,7 @@ pub extern "C" fn malstrink_unseal(s: CSession, frame: &[u8], work: &mut [u8]) -
     }
 }
 
-#[unsafe(no_mangle)]
-pub extern "C" fn malstrink_payload_test(
+pub fn malstrink_payload_test(
     frame: &[u8],
     work: &[u8],
     in_work: bool,

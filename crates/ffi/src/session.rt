@@ -46,16 +46,14 @@ pub(crate) fn no_block(e: Refusal) -> CBlockAnswer
 
 // ---- either end
 
-#[unsafe(no_mangle)]
-pub extern "C" fn malstrink_session_new(scbk: Bytes16) -> CSession
+pub fn malstrink_session_new(scbk: Bytes16) -> CSession
     ensures { result ≡ c_session (fresh Controller scbk.bytes (zeros 8)) }
 {
     let k = scbk.bytes;
     session_c(Session::new(k))
 }
 
-#[unsafe(no_mangle)]
-pub extern "C" fn malstrink_session_new_reader(scbk: Bytes16, cuid: Bytes8) -> CSession
+pub fn malstrink_session_new_reader(scbk: Bytes16, cuid: Bytes8) -> CSession
     ensures { result ≡ c_session (fresh Reader scbk.bytes cuid.bytes) }
 {
     let k = scbk.bytes;
@@ -64,8 +62,7 @@ pub extern "C" fn malstrink_session_new_reader(scbk: Bytes16, cuid: Bytes8) -> C
 }
 
 // Good for a session that cannot be read as well: what it holds must not stay behind.
-#[unsafe(no_mangle)]
-pub extern "C" fn malstrink_session_wipe(s: CSession) -> CSession
+pub fn malstrink_session_wipe(s: CSession) -> CSession
     ensures { result ≡ c_wiped s }
 {
     CSession {
@@ -86,8 +83,7 @@ pub extern "C" fn malstrink_session_wipe(s: CSession) -> CSession
 
 // ---- the controller's end
 
-#[unsafe(no_mangle)]
-pub extern "C" fn malstrink_session_challenge(s: CSession, rnd_a: Bytes8) -> CStepped
+pub fn malstrink_session_challenge(s: CSession, rnd_a: Bytes8) -> CStepped
     ensures { result ≡ stepped_arg s (λ x. challenge_of x rnd_a.bytes) }
 {
     let t = take(s);
@@ -102,8 +98,7 @@ pub extern "C" fn malstrink_session_challenge(s: CSession, rnd_a: Bytes8) -> CSt
     }
 }
 
-#[unsafe(no_mangle)]
-pub extern "C" fn malstrink_session_receive_ccrypt(
+pub fn malstrink_session_receive_ccrypt(
     s: CSession,
     cuid: Bytes8,
     rnd_b: Bytes8,
@@ -125,8 +120,7 @@ pub extern "C" fn malstrink_session_receive_ccrypt(
     }
 }
 
-#[unsafe(no_mangle)]
-pub extern "C" fn malstrink_session_server_cryptogram(s: CSession) -> CBlockAnswer
+pub fn malstrink_session_server_cryptogram(s: CSession) -> CBlockAnswer
     ensures { result ≡ block_answer_arg s server_cryptogram_of }
 {
     let t = take(s);
@@ -138,8 +132,7 @@ pub extern "C" fn malstrink_session_server_cryptogram(s: CSession) -> CBlockAnsw
     }
 }
 
-#[unsafe(no_mangle)]
-pub extern "C" fn malstrink_session_initial_rmac(s: CSession) -> CBlockAnswer
+pub fn malstrink_session_initial_rmac(s: CSession) -> CBlockAnswer
     ensures { result ≡ block_answer_arg s initial_rmac_of }
 {
     let t = take(s);
@@ -151,8 +144,7 @@ pub extern "C" fn malstrink_session_initial_rmac(s: CSession) -> CBlockAnswer
     }
 }
 
-#[unsafe(no_mangle)]
-pub extern "C" fn malstrink_session_confirm_rmac_i(s: CSession, rmac_i: Bytes16) -> CStepped
+pub fn malstrink_session_confirm_rmac_i(s: CSession, rmac_i: Bytes16) -> CStepped
     ensures { result ≡ stepped_arg s (λ x. confirm_of x rmac_i.bytes) }
 {
     let t = take(s);
@@ -169,8 +161,7 @@ pub extern "C" fn malstrink_session_confirm_rmac_i(s: CSession, rmac_i: Bytes16)
 
 // ---- the reader's end
 
-#[unsafe(no_mangle)]
-pub extern "C" fn malstrink_session_receive_challenge(
+pub fn malstrink_session_receive_challenge(
     s: CSession,
     rnd_a: Bytes8,
     rnd_b: Bytes8,
@@ -190,11 +181,7 @@ pub extern "C" fn malstrink_session_receive_challenge(
     }
 }
 
-#[unsafe(no_mangle)]
-pub extern "C" fn malstrink_session_receive_scrypt(
-    s: CSession,
-    server_cryptogram: Bytes16,
-) -> CSteppedBlock
+pub fn malstrink_session_receive_scrypt(s: CSession, server_cryptogram: Bytes16) -> CSteppedBlock
     ensures { result ≡ stepped_block_arg s (λ x. receive_scrypt_of x server_cryptogram.bytes) }
 {
     let t = take(s);
