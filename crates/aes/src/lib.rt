@@ -1,4 +1,6 @@
 // AES-128, FIPS 197.
+#![tactic(auto)]
+
 mod block;
 mod ready;
 mod round;

@@ -1,1 +1,2 @@
 // Definitions and laws alone: what a body says, and the claims over all bodies. Nothing runs.
+#![tactic(auto)]

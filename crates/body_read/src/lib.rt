@@ -1,4 +1,6 @@
 // Reads the body of a reply whole, or refuses it, and shows the parts of it that have no fixed length (docs/RULES.md, 13).
+#![tactic(auto)]
+
 mod badge;
 mod body;
 mod lookup;

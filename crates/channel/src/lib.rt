@@ -1,5 +1,7 @@
 // The channel as a whole: two conversations that agree in the open look alike. Definitions, the theorem, and the calls that hand
 // a frame from one end to the other, which promise the definitions that the theorem is over.
+#![tactic(auto)]
+
 mod frames;
 mod line;
 mod messages;

@@ -1,4 +1,6 @@
 // What crosses the C boundary: the records that C has, and the ways in and out of them. Each record is promised field by field.
+#![tactic(auto)]
+
 mod answer;
 mod body;
 mod build;

@@ -1,1 +1,2 @@
 // Facts that no layer owns: answers, bytes, exclusive or, lists, blocks, tables. Nothing here runs.
+#![tactic(auto)]

@@ -1,4 +1,6 @@
 // Everything of a frame, under one name: reading it, viewing it, building it, and its small kinds.
+#![tactic(auto)]
+
 pub use packet_build::{BuildBlock, GivenMac, PacketBuilder, build, build_body};
 pub use packet_head::{
     Address, AddressAnswer, BROADCAST_ADDR, CHECKSUM_LEN, CODE_LEN, CRC_LEN, ControlAnswer,

@@ -1,4 +1,6 @@
 // Writing a frame into a buffer that the caller lends.
+#![tactic(auto)]
+
 mod codec;
 mod put;
 mod test;

@@ -1,4 +1,6 @@
 // The small kinds of a frame: addresses, sequence numbers, the control byte, the security block and the trailer's kind.
+#![tactic(auto)]
+
 mod header;
 mod numbers;
 mod scb;

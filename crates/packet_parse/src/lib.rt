@@ -1,4 +1,6 @@
 // Reading a frame: a packet by value, whose parts are places in the caller's bytes, or a refusal.
+#![tactic(auto)]
+
 mod codec;
 mod trailing;
 

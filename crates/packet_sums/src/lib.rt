@@ -1,4 +1,6 @@
 // The two trailers of a frame: a checksum of one byte, and a CRC of two.
+#![tactic(auto)]
+
 mod checksum;
 mod crc;
 

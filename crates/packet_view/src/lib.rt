@@ -1,4 +1,6 @@
 // The parsed packet as a view: it keeps the caller's frame, and shows block data, payload and MAC as parts of it.
+#![tactic(auto)]
+
 mod parts;
 mod view;
 

@@ -1,4 +1,6 @@
 // Why a call refuses, with what the customer's paper has it carry (docs/RULES.md, 1).
+#![tactic(auto)]
+
 ghost use Rattle.std.specs.Prelude.{◌≡◌};
 ghost use Rattle.refusal.specs.Paper.{number_of, numbered_of};
 

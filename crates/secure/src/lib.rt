@@ -1,5 +1,7 @@
 // The secure channel under one name: keys, padding, MAC and CBC, both ends of the session, sealing and unsealing. `lent` has the
 // calls on a session that stays with the caller.
+#![tactic(auto)]
+
 pub mod lent;
 
 pub use secure_cipher::{

@@ -1,4 +1,6 @@
 // What the channel does to bytes: padding, the chain MAC, CBC.
+#![tactic(auto)]
+
 mod block;
 mod cipher;
 mod mac;

@@ -1,4 +1,6 @@
 // Session keys, cryptograms, and the comparison of what must match.
+#![tactic(auto)]
+
 mod compare;
 mod crypto;
 

@@ -1,4 +1,6 @@
 // A session that is lent, and altered where the caller keeps it.
+#![tactic(auto)]
+
 mod lent;
 
 pub use lent::{

@@ -1,4 +1,6 @@
 // Sealing a frame.
+#![tactic(auto)]
+
 mod frame;
 
 pub use frame::{Direction, Sealed, seal};

@@ -1,4 +1,6 @@
 // One session of the channel, at either end.
+#![tactic(auto)]
+
 mod chain;
 mod channel;
 mod door;

@@ -1,4 +1,6 @@
 // Unsealing a frame, and looking up the payload that was opened.
+#![tactic(auto)]
+
 mod frame;
 mod lookup;
 

@@ -14,4 +14,4 @@ stretch_of s = (s.ref_ptr, s.now)
 
 -- the bytes b, where they begin `at` bytes after the start of s
 abbrev pub stretch_in : Bor (List ℕ) → ℕ → List ℕ → Stretch
-stretch_in s at b = ((s.ptr.0, at + s.ptr.1), b)
+stretch_in s at b = ((s.ref_ptr.0, at + s.ref_ptr.1), b)

@@ -1,4 +1,6 @@
 // Bytes in slices that the caller lends. Every call is total: what has no room is left out, and a place outside shows nothing.
+#![tactic(auto)]
+
 mod number;
 mod over;
 mod place;
