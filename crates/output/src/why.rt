@@ -1,0 +1,30 @@
+// Why a call on a file failed, in the system's words alone: the text of the error without the number that std puts behind it.
+use std::fmt::Write;
+use std::{fmt, io};
+
+#[derive(Clone, Copy)]
+pub struct Why(pub io::Error);
+
+// Passes text on up to that number.
+#[derive(Drop)]
+struct Words<'a, W> {
+    to: &'a mut fmt::Formatter<W>,
+    over: bool,
+}
+
+impl<W: fmt::Write> fmt::Write for Words<'_, W> {
+    fn write_str(&mut self, s: &str) -> fmt::Result {
+        if self.over || s.starts_with(" (os error ") {
+            self.over = true;
+            return Ok(());
+        }
+        self.to.write_str(s)
+    }
+}
+
+impl fmt::Display for Why {
+    fn fmt<W: fmt::Write>(&self, f: &mut fmt::Formatter<W>) -> fmt::Result {
+        let mut words = Words { to: f, over: false };
+        write!(words, "{}", self.0)
+    }
+}
