@@ -1,7 +1,9 @@
 // AES-128 for timing from outside. With one argument, a million blocks are enciphered, the key made ready for each; with two, a
 // million are enciphered under one key made ready; with three, deciphered. Without any, a hundred of each. The last block of each
 // run goes to standard output.
-use libc::STDOUT_FILENO;
+#![tactic(auto)]
+
+use std::env::{Env, FillError};
 
 // Each block is enciphered from the one before, the key made ready for each.
 fn expanding(n: usize, key: [u8; 16], block: [u8; 16]) -> [u8; 16] {
@@ -37,28 +39,45 @@ fn deciphering(n: usize, key: [u8; 16], block: [u8; 16]) -> [u8; 16] {
     b
 }
 
-fn all(n: usize, key: [u8; 16]) {
+fn put(rt: &HostRuntime, block: [u8; 16]) {
+    let _ = rt.stdout().write_all(&block);
+}
+
+fn all(rt: &HostRuntime, n: usize, key: [u8; 16]) {
     let a = expanding(n, key, key);
     let b = enciphering(n, key, key);
     let c = deciphering(n, key, key);
-    io::write_all(STDOUT_FILENO, &a);
-    io::write_all(STDOUT_FILENO, &b);
-    io::write_all(STDOUT_FILENO, &c);
+    put(rt, a);
+    put(rt, b);
+    put(rt, c);
 }
 
-fn main() {
+// How many words the program was started with, its own name among them; 5 are many.
+fn words(rt: &HostRuntime) -> usize {
+    let mut n = 0;
+    for at in 0..5 {
+        match rt.arg(at, &mut []) {
+            Ok(_) => n = at + 1,
+            Err(FillError::TooLong) => n = at + 1,
+            Err(FillError::NotPresent) => return n,
+        }
+    }
+    n
+}
+
+fn main(rt: HostRuntime) {
     let key = [0u8, 1, 2, 3, 4, 5, 6, 7, 8, 9, 10, 11, 12, 13, 14, 15];
-    let words = os::arg_count();
+    let words = words(&rt);
     if words == 2 {
         let a = expanding(1000000, key, key);
-        io::write_all(STDOUT_FILENO, &a);
+        put(&rt, a);
     } else if words == 3 {
         let b = enciphering(1000000, key, key);
-        io::write_all(STDOUT_FILENO, &b);
+        put(&rt, b);
     } else if words == 4 {
         let c = deciphering(1000000, key, key);
-        io::write_all(STDOUT_FILENO, &c);
+        put(&rt, c);
     } else {
-        all(100, key);
+        all(&rt, 100, key);
     }
 }

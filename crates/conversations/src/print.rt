@@ -1,33 +1,32 @@
 // What the program writes.
-use libc::STDOUT_FILENO;
 use packet_parse::{BlockPart, Parsed, ParsedPacket};
 use refusal::{Outcome, Refusal};
 
-pub(crate) fn put(text: &[u8]) {
-    io::write_all(STDOUT_FILENO, text);
+pub(crate) fn put(rt: &HostRuntime, text: &[u8]) {
+    let _ = rt.stdout().write_all(text);
 }
 
-pub(crate) fn put_number(n: usize) {
-    io::print_decimal(STDOUT_FILENO, n as u64);
+pub(crate) fn put_number(rt: &HostRuntime, n: usize) {
+    let _ = rt.print(n);
 }
 
-pub(crate) fn put_yes(right: bool) {
+pub(crate) fn put_yes(rt: &HostRuntime, right: bool) {
     if right {
-        put(b" yes");
+        put(rt, b" yes");
     } else {
-        put(b" no");
+        put(rt, b" no");
     }
 }
 
-pub(crate) fn put_refused(e: Refusal) {
-    put(b" refused ");
-    put_number(wide(e.number()));
+pub(crate) fn put_refused(rt: &HostRuntime, e: Refusal) {
+    put(rt, b" refused ");
+    put_number(rt, wide(e.number()));
 }
 
-pub(crate) fn put_outcome(o: Outcome) {
+pub(crate) fn put_outcome(rt: &HostRuntime, o: Outcome) {
     match o {
-        Outcome::Done => put(b" done"),
-        Outcome::Refused(e) => put_refused(e),
+        Outcome::Done => put(rt, b" done"),
+        Outcome::Refused(e) => put_refused(rt, e),
     }
 }
 
@@ -36,12 +35,12 @@ fn wide(b: u8) -> usize {
 }
 
 // The first n bytes of a frame, in decimal.
-fn put_bytes(frame: &[u8], n: usize) {
+fn put_bytes(rt: &HostRuntime, frame: &[u8], n: usize) {
     let mut i = 0;
     while i < n {
         if i < frame.len() {
-            put(b" ");
-            put_number(wide(frame[i]));
+            put(rt, b" ");
+            put_number(rt, wide(frame[i]));
         }
         i += 1;
     }
@@ -67,9 +66,9 @@ fn open_end(p: ParsedPacket) -> usize {
     }
 }
 
-pub(crate) fn put_open(frame: &[u8]) {
+pub(crate) fn put_open(rt: &HostRuntime, frame: &[u8]) {
     match packet_parse::parse(frame) {
-        Parsed::Good(p) => put_bytes(frame, open_end(p)),
-        Parsed::Refused(e) => put_refused(e),
+        Parsed::Good(p) => put_bytes(rt, frame, open_end(p)),
+        Parsed::Refused(e) => put_refused(rt, e),
     }
 }

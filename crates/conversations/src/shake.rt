@@ -74,14 +74,14 @@ fn reply_of(cuid: [u8; 8], rnd_b: [u8; 8], client: [u8; 16]) -> [u8; 32] {
 }
 
 // What the peer reads in the bytes that went over the line, with zeros after it; and how many bytes that is.
-fn read(out: &[u8], c: CarriedMessage) -> [u8; 32] {
+fn read(rt: &HostRuntime, out: &[u8], c: CarriedMessage) -> [u8; 32] {
     let sent = c.sent;
     match sent {
         LengthAnswer::Of(_) => {
-            put(b" ");
-            put_number(c.len);
+            put(rt, b" ");
+            put_number(rt, c.len);
         }
-        LengthAnswer::Refused(e) => put_refused(e),
+        LengthAnswer::Refused(e) => put_refused(rt, e),
     }
     let line = channel::on_line(out, sent);
     let message = slices::part(line, c.start, c.len);
@@ -93,49 +93,64 @@ fn read(out: &[u8], c: CarriedMessage) -> [u8; 32] {
 }
 
 // A message in a frame whose block says that the key is the reader's own.
-fn say(ty: ScsType, addr: u8, code: u8, message: &[u8], crc: bool, out: &mut [u8]) -> [u8; 32] {
+fn say(
+    rt: &HostRuntime,
+    ty: ScsType,
+    addr: u8,
+    code: u8,
+    message: &[u8],
+    crc: bool,
+    out: &mut [u8],
+) -> [u8; 32] {
     let address = Address::from_raw(addr);
     let c = channel::carry(ty, address, Sqn::ZERO, crc, b"\x01", code, message, out);
-    read(out, c)
+    read(rt, out, c)
 }
 
 // The same through a buffer that holds something else before; what the peer reads.
-fn say_in(ty: ScsType, addr: u8, code: u8, message: &[u8], room: Room) -> [u8; 32] {
+fn say_in(
+    rt: &HostRuntime,
+    ty: ScsType,
+    addr: u8,
+    code: u8,
+    message: &[u8],
+    room: Room,
+) -> [u8; 32] {
     match room {
         Room::Exact => {
             let mut out = [0xEEu8; 43];
-            say(ty, addr, code, message, true, &mut out)
+            say(rt, ty, addr, code, message, true, &mut out)
         }
         Room::More => {
             let mut out = [0xEEu8; 99];
-            say(ty, addr, code, message, false, &mut out)
+            say(rt, ty, addr, code, message, false, &mut out)
         }
         Room::Much => {
             let mut out = [0xEEu8; 1440];
-            say(ty, addr, code, message, true, &mut out)
+            say(rt, ty, addr, code, message, true, &mut out)
         }
         Room::TooLittle => {
             let mut out = [0xEEu8; 13];
-            say(ty, addr, code, message, true, &mut out)
+            say(rt, ty, addr, code, message, true, &mut out)
         }
     }
 }
 
 // 13: the controller proves that it has the key. 14: the reader answers the first chain value.
-fn prove(controller: Session, reader: Session, room: Room) -> Ends {
+fn prove(rt: &HostRuntime, controller: Session, reader: Session, room: Room) -> Ends {
     let server = controller.server_cryptogram();
     let cryptogram = server.block;
     let made = server.outcome;
-    put_outcome(made);
-    let sent = say_in(ScsType::Scs13, 0x05, 0x77, &cryptogram, room);
+    put_outcome(rt, made);
+    let sent = say_in(rt, ScsType::Scs13, 0x05, 0x77, &cryptogram, room);
     let last = reader.receive_scrypt(first_block(sent));
     let found = last.outcome;
-    put_outcome(found);
+    put_outcome(rt, found);
     let first = last.block;
-    let back = say_in(ScsType::Scs14, 0x85, 0x78, &first, room);
+    let back = say_in(rt, ScsType::Scs14, 0x85, 0x78, &first, room);
     let ready = controller.confirm_rmac_i(first_block(back));
     let confirmed = ready.outcome;
-    put_outcome(confirmed);
+    put_outcome(rt, confirmed);
     let c = ready.session;
     let r = last.session;
     Ends {
@@ -145,34 +160,47 @@ fn prove(controller: Session, reader: Session, room: Room) -> Ends {
 }
 
 // 12: the reader answers; the controller derives its keys and tests the client cryptogram.
-fn answer(controller: Session, reader: Session, reply: [u8; 32], room: Room) -> Ends {
-    let sent = say_in(ScsType::Scs12, 0x85, 0x76, &reply, room);
+fn answer(
+    rt: &HostRuntime,
+    controller: Session,
+    reader: Session,
+    reply: [u8; 32],
+    room: Room,
+) -> Ends {
+    let sent = say_in(rt, ScsType::Scs12, 0x85, 0x76, &reply, room);
     let cuid = first_eight(sent);
     let rnd_b = second_eight(sent);
     let met = controller.receive_ccrypt(cuid, rnd_b, second_block(sent));
     let right = met.outcome;
-    put_outcome(right);
+    put_outcome(rt, right);
     let known = met.session;
-    prove(known, reader, room)
+    prove(rt, known, reader, room)
 }
 
 // 11: the controller challenges, and the reader derives its keys; then the rest. For each message the number of bytes that the peer
 // reads, for each of the six calls what it answers.
-pub(crate) fn shake(ends: Ends, rnd_a: [u8; 8], rnd_b: [u8; 8], cuid: [u8; 8], room: Room) -> Ends {
-    put(b"handshake:");
+pub(crate) fn shake(
+    rt: &HostRuntime,
+    ends: Ends,
+    rnd_a: [u8; 8],
+    rnd_b: [u8; 8],
+    cuid: [u8; 8],
+    room: Room,
+) -> Ends {
+    put(rt, b"handshake:");
     let controller = ends.controller;
     let reader = ends.reader;
     let asked = controller.challenge(rnd_a);
     let asked_right = asked.outcome;
-    put_outcome(asked_right);
-    let sent = say_in(ScsType::Scs11, 0x05, 0x76, &rnd_a, room);
+    put_outcome(rt, asked_right);
+    let sent = say_in(rt, ScsType::Scs11, 0x05, 0x76, &rnd_a, room);
     let told = reader.receive_challenge(first_eight(sent), rnd_b);
     let told_right = told.outcome;
-    put_outcome(told_right);
+    put_outcome(rt, told_right);
     let client = told.block;
     let challenged = asked.session;
     let derived = told.session;
-    let done = answer(challenged, derived, reply_of(cuid, rnd_b, client), room);
-    put(b"\n");
+    let done = answer(rt, challenged, derived, reply_of(cuid, rnd_b, client), room);
+    put(rt, b"\n");
     done
 }

@@ -13,10 +13,10 @@ abbrev pub Arrives : List ℕ → Arrival → Type 0
 Arrives room (Arrival.Read answer n) = (n ≤ length room) × (wanted_of (take n room) ≡ n) × (parsed answer ≡ parse_of (take n room))
 Arrives room (Arrival.Cut answer n) = (n ≤ length room) × (n < wanted_of (take n room)) × (parsed answer ≡ parse_of (take n room))
 Arrives room (Arrival.TooLong n) = (wanted_of (take HEADER_LEN room) ≡ n) × (length room < n)
-Arrives room Arrival.Failed = Unit {0}
+Arrives room (Arrival.Failed e) = Unit {0}
 
 -- how many are there, from `have` on: all of `want`, or fewer
 abbrev pub Fills : (have want : ℕ) → There → Type 0
 Fills have want (There.All n) = n ≡ want
 Fills have want (There.Ended n) = (have ≤ n) × (n < want)
-Fills have want There.Failed = Unit {0}
+Fills have want (There.Failed e) = Unit {0}

@@ -6,6 +6,7 @@ ghost use Rattle.driver.specs.Arrives.{Arrives, Fills};
 
 use packet_head::HEADER_LEN;
 use packet_parse::{HeadAnswer, Parsed, head, parse};
+use std::io::{Error, Read};
 
 // How many bytes of a frame this driver can hold. LEN goes up to 65,535; one above this is the driver's own to refuse.
 pub(crate) const ROOM: usize = 1440;
@@ -17,7 +18,7 @@ pub(crate) enum Arrival {
     Read { answer: Parsed, len: usize },
     Cut { answer: Parsed, len: usize },
     TooLong(usize),
-    Failed,
+    Failed(Error),
 }
 
 // How many bytes are there: all that are wanted, or fewer, since the line ended.
@@ -25,12 +26,12 @@ pub(crate) enum Arrival {
 enum There {
     All(usize),
     Ended(usize),
-    Failed,
+    Failed(Error),
 }
 
 // Reads on from `have` bytes until `want` are there. A read that a signal breaks off has failed: to try it again, as often as that
 // comes, would not end.
-fn fill(fd: i32, room: &mut [u8], have: usize, want: usize) -> There
+fn fill<L: Read>(line: &mut L, room: &mut [u8], have: usize, want: usize) -> There
     requires have_le_want { have ≤ want }
     requires want_in_bounds { want ≤ length room.old }
     ensures fills { Fills have want result }
@@ -38,11 +39,10 @@ fn fill(fd: i32, room: &mut [u8], have: usize, want: usize) -> There
 {
     let mut n = have;
     while n < want {
-        let got = libc::read(fd, &mut room[n..want]);
-        if got < 0 {
-            return There::Failed;
-        }
-        let more = io::count(got, &room[n..want]);
+        let more = match line.read(&mut room[n..want]) {
+            Ok(more) => more,
+            Err(e) => return There::Failed(e),
+        };
         if more == 0 {
             return There::Ended(n);
         }
@@ -63,7 +63,7 @@ fn after_five(len: usize) -> usize
 }
 
 // The rest of a frame whose first five bytes are there, and the parse.
-fn rest_from(fd: i32, room: &mut [u8], len: usize) -> Arrival
+fn rest_from<L: Read>(line: &mut L, room: &mut [u8], len: usize) -> Arrival
     requires header_len_in_bounds { HEADER_LEN ≤ length room.old }
     requires room_value { wanted_of (take HEADER_LEN room.old) ≡ HEADER_LEN + (len - HEADER_LEN) }
     ensures { Arrives room.new result }
@@ -72,7 +72,7 @@ fn rest_from(fd: i32, room: &mut [u8], len: usize) -> Arrival
     if room.len() < wanted {
         return Arrival::TooLong(len);
     }
-    match fill(fd, room, HEADER_LEN, wanted) {
+    match fill(line, room, HEADER_LEN, wanted) {
         There::All(all) => Arrival::Read {
             answer: parse(&room[..all]),
             len: all,
@@ -81,20 +81,20 @@ fn rest_from(fd: i32, room: &mut [u8], len: usize) -> Arrival
             answer: parse(&room[..few]),
             len: few,
         },
-        There::Failed => Arrival::Failed,
+        There::Failed(e) => Arrival::Failed(e),
     }
 }
 
 // The next frame of a line, read into room.
-pub(crate) fn frame_from(fd: i32, room: &mut [u8]) -> Arrival
+pub(crate) fn frame_from<L: Read>(line: &mut L, room: &mut [u8]) -> Arrival
     ensures { Arrives room.new result }
 {
     if room.len() < HEADER_LEN {
         return Arrival::TooLong(HEADER_LEN);
     }
-    match fill(fd, room, 0, HEADER_LEN) {
+    match fill(line, room, 0, HEADER_LEN) {
         There::All(five) => match head(&room[..five]) {
-            HeadAnswer::Good(h) => rest_from(fd, room, h.len),
+            HeadAnswer::Good(h) => rest_from(line, room, h.len),
             HeadAnswer::Refused(e) => Arrival::Read {
                 answer: Parsed::Refused(e),
                 len: five,
@@ -104,6 +104,6 @@ pub(crate) fn frame_from(fd: i32, room: &mut [u8]) -> Arrival
             answer: parse(&room[..n]),
             len: n,
         },
-        There::Failed => Arrival::Failed,
+        There::Failed(e) => Arrival::Failed(e),
     }
 }

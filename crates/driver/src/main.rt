@@ -1,79 +1,87 @@
 // Lists the frames that come in on standard input, each as soon as it is there, up to the line's end or the first refusal. It shows how
 // a driver reads a line (docs/RULES.md, 3.7 and 15).
+#![tactic(auto)]
+
 mod arrive;
 
 use arrive::{Arrival, ROOM, frame_from};
-use libc::{STDERR_FILENO, STDIN_FILENO, STDOUT_FILENO};
+use output::Why;
 use packet_parse::Parsed;
+use std::env::{Env, FillError};
+use std::io;
 
 // Where it stops, without a word, so that it ends on a line that does not: at 115,200 baud after twelve million years.
 const LONGEST: usize = 0x4000_0000_0000_0000;
 
-fn say_number(text: &[u8], n: usize) {
-    io::write_all(STDERR_FILENO, text);
-    io::print_decimal(STDERR_FILENO, n as u64);
+fn say_too_long(rt: &HostRuntime, at: usize, len: usize) {
+    let _ = eprintln!(rt; "driver: cannot hold the {len} bytes of the frame at {at}, only {ROOM}");
 }
 
-fn say_too_long(at: usize, len: usize) {
-    say_number(b"driver: cannot hold the ", len);
-    say_number(b" bytes of the frame at ", at);
-    say_number(b", only ", ROOM);
-    io::write_all(STDERR_FILENO, b"\n");
+// Why a call failed, as the caller names it.
+fn fail(rt: &HostRuntime, what: &str, e: io::Error) {
+    let _ = rt.eprint(what);
+    let _ = rt.eprintln(Why(e));
 }
 
 // Lists what was read, and answers whether to go on.
-fn put_read(at: usize, answer: Parsed) -> bool {
+fn put_read(rt: &HostRuntime, at: usize, answer: Parsed) -> bool {
     match answer {
-        Parsed::Good(p) => listing::put_frame(b"driver", true, at, p),
+        Parsed::Good(p) => listing::put_frame(rt, b"driver", true, at, p),
         Parsed::Refused(e) => {
-            listing::put_refusal(b"driver", true, at, e);
+            listing::put_refusal(rt, b"driver", true, at, e);
             false
         }
     }
 }
 
-// Whether there is a line to read and a listing to write.
-fn begin() -> bool {
-    if 1 < os::arg_count() {
-        io::write_all(
-            STDERR_FILENO,
-            b"driver: cannot take arguments; it reads standard input\n",
-        );
-        return false;
+fn has_arguments(rt: &HostRuntime) -> bool {
+    match rt.arg(1, &mut []) {
+        Ok(_) => true,
+        Err(FillError::TooLong) => true,
+        Err(FillError::NotPresent) => false,
     }
-    let ok = io::write_all(STDOUT_FILENO, b"at len addr sqn code data\n");
-    if !ok {
-        os::fail(b"driver: cannot write");
-    }
-    ok
 }
 
-fn main() {
-    if !begin() {
+// Whether there is a line to read and a listing to write.
+fn begin(rt: &HostRuntime) -> bool {
+    if has_arguments(rt) {
+        let _ = rt.eprintln("driver: cannot take arguments; it reads standard input");
+        return false;
+    }
+    let wrote = println!(rt; "at len addr sqn code data");
+    if let Err(e) = wrote {
+        fail(rt, "driver: cannot write: ", e);
+    }
+    wrote.is_ok()
+}
+
+fn main(rt: HostRuntime) {
+    if !begin(&rt) {
         return;
     }
+    let mut line = rt.stdin();
     let mut room = [0u8; ROOM];
     let mut at = 0;
     while at < LONGEST {
-        match frame_from(STDIN_FILENO, &mut room) {
+        match frame_from(&mut line, &mut room) {
             Arrival::Read { answer, len } => {
-                if !put_read(at, answer) {
+                if !put_read(&rt, at, answer) {
                     return;
                 }
                 at += len;
             }
             Arrival::Cut { answer, len } => {
                 if 0 < len {
-                    put_read(at, answer);
+                    put_read(&rt, at, answer);
                 }
                 return;
             }
             Arrival::TooLong(len) => {
-                say_too_long(at, len);
+                say_too_long(&rt, at, len);
                 return;
             }
-            Arrival::Failed => {
-                os::fail(b"driver: cannot read");
+            Arrival::Failed(e) => {
+                fail(&rt, "driver: cannot read: ", e);
                 return;
             }
         }

@@ -1,6 +1,7 @@
 // The README's first use: read a frame; shake hands, seal a badge at the reader, open it at the controller, read its number.
+#![tactic(auto)]
+
 use body_read::{BadgeAnswer, Body, ReadAnswer};
-use libc::STDOUT_FILENO;
 use packet::{Address, Parsed, Sqn};
 use refusal::{LengthAnswer, Outcome, Refusal};
 use secure::{Direction, PlaceAnswer, Session};
@@ -12,20 +13,18 @@ struct Ends {
     reader: Session,
 }
 
-fn put_refused(e: Refusal) {
-    io::write_all(STDOUT_FILENO, b"refused ");
-    io::print_decimal(STDOUT_FILENO, e.number() as u64);
-    io::write_all(STDOUT_FILENO, b"\n");
+fn put_refused(rt: &HostRuntime, e: Refusal) {
+    let number = e.number();
+    let _ = println!(rt; "refused {number}");
 }
 
-fn put_code(bytes: &[u8]) {
+fn put_code(rt: &HostRuntime, bytes: &[u8]) {
     match packet::parse(bytes) {
         Parsed::Good(p) => {
-            io::write_all(STDOUT_FILENO, b"code ");
-            io::print_decimal(STDOUT_FILENO, p.code as u64);
-            io::write_all(STDOUT_FILENO, b"\n");
+            let code = p.code;
+            let _ = println!(rt; "code {code}");
         }
-        Parsed::Refused(e) => put_refused(e),
+        Parsed::Refused(e) => put_refused(rt, e),
     }
 }
 
@@ -49,35 +48,33 @@ fn handshake(scbk: [u8; 16], cuid: [u8; 8], rnd_a: [u8; 8], rnd_b: [u8; 8]) -> E
     }
 }
 
-fn put_number(body: Body, payload: &[u8]) {
+fn put_number(rt: &HostRuntime, body: Body, payload: &[u8]) {
     match body_read::badge_number(body, payload) {
         BadgeAnswer::Number(n) => {
-            io::write_all(STDOUT_FILENO, b"badge ");
-            io::print_decimal(STDOUT_FILENO, n);
-            io::write_all(STDOUT_FILENO, b"\n");
+            let _ = println!(rt; "badge {n}");
         }
         BadgeAnswer::NoNumber => {
-            io::write_all(STDOUT_FILENO, b"no number\n");
+            let _ = println!(rt; "no number");
         }
     }
 }
 
-fn put_body(code: u8, payload: &[u8]) {
+fn put_body(rt: &HostRuntime, code: u8, payload: &[u8]) {
     match body_read::read(code, payload) {
-        ReadAnswer::Good(body) => put_number(body, payload),
-        ReadAnswer::Refused(e) => put_refused(e),
+        ReadAnswer::Good(body) => put_number(rt, body, payload),
+        ReadAnswer::Refused(e) => put_refused(rt, e),
     }
 }
 
 // The code stands in the frame as it came, the payload where unsealing put it.
-fn put_reply(frame: &[u8], payload: &[u8]) {
+fn put_reply(rt: &HostRuntime, frame: &[u8], payload: &[u8]) {
     match packet::parse(frame) {
-        Parsed::Good(p) => put_body(p.code, payload),
-        Parsed::Refused(e) => put_refused(e),
+        Parsed::Good(p) => put_body(rt, p.code, payload),
+        Parsed::Refused(e) => put_refused(rt, e),
     }
 }
 
-fn put_opened(controller: Session, frame: &[u8]) {
+fn put_opened(rt: &HostRuntime, controller: Session, frame: &[u8]) {
     let mut work = [0u8; 64];
     let opened = secure::unseal(controller, frame, &mut work);
     let place = opened.answer;
@@ -88,13 +85,13 @@ fn put_opened(controller: Session, frame: &[u8]) {
             len,
         } => {
             let payload = secure::payload(frame, &work, in_work, start, len);
-            put_reply(frame, payload);
+            put_reply(rt, frame, payload);
         }
-        PlaceAnswer::Refused(e) => put_refused(e),
+        PlaceAnswer::Refused(e) => put_refused(rt, e),
     }
 }
 
-fn seal_badge(reader: Session, controller: Session, badge: &[u8]) {
+fn seal_badge(rt: &HostRuntime, reader: Session, controller: Session, badge: &[u8]) {
     let mut frame = [0u8; 64];
     let sealed = secure::seal(
         reader,
@@ -108,14 +105,14 @@ fn seal_badge(reader: Session, controller: Session, badge: &[u8]) {
     );
     let length = sealed.answer;
     match length {
-        LengthAnswer::Of(_) => put_opened(controller, &frame),
-        LengthAnswer::Refused(e) => put_refused(e),
+        LengthAnswer::Of(_) => put_opened(rt, controller, &frame),
+        LengthAnswer::Refused(e) => put_refused(rt, e),
     }
 }
 
-fn main() {
-    put_code(&[0x53, 0x05, 0x08, 0x00, 0x04, 0x60, 0xBC, 0x89]);
-    put_code(&[0x53, 0x05, 0x08, 0x00, 0x04, 0x60, 0xBC, 0x88]);
+fn main(rt: HostRuntime) {
+    put_code(&rt, &[0x53, 0x05, 0x08, 0x00, 0x04, 0x60, 0xBC, 0x89]);
+    put_code(&rt, &[0x53, 0x05, 0x08, 0x00, 0x04, 0x60, 0xBC, 0x88]);
     let ends = handshake([7; 16], [1; 8], [2; 8], [3; 8]);
     let outcome = ends.outcome;
     let controller = ends.controller;
@@ -123,8 +120,8 @@ fn main() {
     match outcome {
         Outcome::Done => {
             let badge = [0, 1, 26, 0, 0x8F, 0xA3, 0x40, 0x40];
-            seal_badge(reader, controller, &badge)
+            seal_badge(&rt, reader, controller, &badge)
         }
-        Outcome::Refused(e) => put_refused(e),
+        Outcome::Refused(e) => put_refused(&rt, e),
     }
 }

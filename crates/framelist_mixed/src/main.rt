@@ -1,18 +1,17 @@
 // The same as framelist, once more so that the tests can hand it a file: sealed frames, one with a checksum, a refusal with frames after it.
-use libc::STDERR_FILENO;
+#![tactic(auto)]
 
-fn main() {
+fn main(rt: HostRuntime) {
     let mut buf = io::large_buffer();
-    let came = input::read(b"framelist", &mut buf);
+    let came = input::read(&rt, b"framelist", &mut buf);
     if !came.all {
         return;
     }
     let n = came.len;
-    listing::list(&buf[..n]);
+    listing::list(&rt, &buf[..n]);
     if n == buf.len() {
-        io::write_all(
-            STDERR_FILENO,
-            b"framelist: 65536 bytes were read, the most it reads; anything further was not read\n",
+        let _ = eprintln!(rt;
+            "framelist: 65536 bytes were read, the most it reads; anything further was not read"
         );
     }
 }

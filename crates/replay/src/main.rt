@@ -3,6 +3,8 @@
 // number, with 128 added where it is lent a buffer, how many cases there are, their name; then the cases, each what the call is handed
 // and the answer that the oracle gives (oracle/store writes them). Answers that differ, an input that is cut, also between two parts,
 // and bytes after the last part are said on standard error too, in a line that begins `replay: refused `.
+#![tactic(auto)]
+
 ghost use Rattle.std.specs.Prelude.{◌≡◌, ◌≤◌, length};
 
 mod ciphers;
@@ -13,7 +15,8 @@ mod sessions;
 mod stored;
 mod want;
 
-use libc::{STDERR_FILENO, STDOUT_FILENO};
+use output::Why;
+use std::io;
 
 // Whether the call's answer is the one wanted.
 fn agrees(op: u8, x: &[u8], w: &[u8]) -> bool {
@@ -53,22 +56,20 @@ struct Seen {
     over: bool,
 }
 
-fn say_refused(at: usize, why: &[u8]) {
-    io::write_all(STDERR_FILENO, b"replay: refused at ");
-    io::print_decimal(STDERR_FILENO, at as u64);
-    io::write_all(STDERR_FILENO, why);
+fn say_refused(rt: &HostRuntime, at: usize, why: &str) {
+    let _ = eprintln!(rt; "replay: refused at {at}: {why}");
 }
 
-fn say_cut(at: usize) {
-    say_refused(at, b": what begins there is cut short\n");
+fn say_cut(rt: &HostRuntime, at: usize) {
+    say_refused(rt, at, "what begins there is cut short");
 }
 
-fn say_more(at: usize) {
-    say_refused(at, b": more than the parts that are said\n");
+fn say_more(rt: &HostRuntime, at: usize) {
+    say_refused(rt, at, "more than the parts that are said");
 }
 
 // The cases of one call, of which the first begins at `from`.
-fn cases(op: u8, count: usize, x: &[u8], from: usize) -> Seen
+fn cases(rt: &HostRuntime, op: u8, count: usize, x: &[u8], from: usize) -> Seen
     requires { from ≤ length x.now }
     ensures { result.at ≤ length x.now }
 {
@@ -77,7 +78,7 @@ fn cases(op: u8, count: usize, x: &[u8], from: usize) -> Seen
     for _ in 0..count {
         let len = case_len(given::from(x, at));
         if x.len() - at < len {
-            say_cut(at);
+            say_cut(rt, at);
             return Seen {
                 at,
                 right,
@@ -96,31 +97,28 @@ fn cases(op: u8, count: usize, x: &[u8], from: usize) -> Seen
     }
 }
 
-fn put(name: &[u8], right: u64, of: u64) -> bool {
-    io::write_all(STDOUT_FILENO, name)
-        && io::write_all(STDOUT_FILENO, b": ")
-        && io::print_decimal(STDOUT_FILENO, right)
-        && io::write_all(STDOUT_FILENO, b" of ")
-        && io::print_decimal(STDOUT_FILENO, of)
-        && io::write_all(STDOUT_FILENO, b"\n")
+fn put(rt: &HostRuntime, name: &[u8], right: u64, of: u64) -> io::Result<()> {
+    rt.stdout().write_all(name)?;
+    println!(rt; ": {right} of {of}")
 }
 
 // Answers whether the line could be written.
-fn tell(name: &[u8], right: u64, of: u64) -> bool {
-    if !put(name, right, of) {
-        os::fail(b"replay: cannot write");
+fn tell(rt: &HostRuntime, name: &[u8], right: u64, of: u64) -> bool {
+    if let Err(e) = put(rt, name, right, of) {
+        let _ = eprint!(rt; "replay: cannot write: ");
+        let _ = rt.eprintln(Why(e));
         return false;
     }
     if right != of {
-        io::write_all(STDERR_FILENO, b"replay: refused by answers that differ: ");
-        io::write_all(STDERR_FILENO, name);
-        io::write_all(STDERR_FILENO, b"\n");
+        let _ = eprint!(rt; "replay: refused by answers that differ: ");
+        let _ = rt.stderr().write_all(name);
+        let _ = eprintln!(rt);
     }
     true
 }
 
 // The part that begins at `from`: a head of 4 bytes, the last of them the name's length; the name; the cases.
-fn part(x: &[u8], from: usize) -> Seen
+fn part(rt: &HostRuntime, x: &[u8], from: usize) -> Seen
     requires { from ≤ length x.now }
     ensures { result.at ≤ length x.now }
 {
@@ -128,18 +126,18 @@ fn part(x: &[u8], from: usize) -> Seen
     let count = given::two(head, 1);
     let n = given::wide(given::byte(head, 3));
     if x.len() - from < 4 + n {
-        say_cut(from);
+        say_cut(rt, from);
         return Seen {
             at: from,
             right: 0,
             over: true,
         };
     }
-    let seen = cases(given::byte(head, 0), count, x, from + 4 + n);
+    let seen = cases(rt, given::byte(head, 0), count, x, from + 4 + n);
     if seen.over {
         return seen;
     }
-    let ok = tell(slices::part(head, 4, n), seen.right, count as u64);
+    let ok = tell(rt, slices::part(head, 4, n), seen.right, count as u64);
     Seen {
         at: seen.at,
         right: seen.right,
@@ -148,22 +146,22 @@ fn part(x: &[u8], from: usize) -> Seen
 }
 
 // As many parts as the first two bytes say, and nothing after them.
-fn parts(x: &[u8]) {
+fn parts(rt: &HostRuntime, x: &[u8]) {
     if x.len() < 2 {
-        say_cut(0);
+        say_cut(rt, 0);
         return;
     }
     let count = given::two(x, 0);
     let mut at = 2;
     for _ in 0..count {
-        let seen = part(x, at);
+        let seen = part(rt, x, at);
         if seen.over {
             return;
         }
         at = seen.at;
     }
     if at != x.len() {
-        say_more(at);
+        say_more(rt, at);
     }
 }
 
@@ -174,19 +172,16 @@ fn space() -> [u8; 2097152]
     [0; 2097152]
 }
 
-fn main() {
+fn main(rt: HostRuntime) {
     let mut buf = space();
-    let came = input::read(b"replay", &mut buf);
+    let came = input::read(&rt, b"replay", &mut buf);
     if !came.all {
         return;
     }
     let n = came.len;
     if n == buf.len() {
-        io::write_all(
-            STDERR_FILENO,
-            b"replay: cannot take an input of 2097152 bytes or more\n",
-        );
+        let _ = eprintln!(rt; "replay: cannot take an input of 2097152 bytes or more");
         return;
     }
-    parts(&buf[..n]);
+    parts(&rt, &buf[..n]);
 }

@@ -1,7 +1,7 @@
 // The worked examples of FIPS 197 and of NIST SP 800-38A: how many of each group come out as the documents print them.
-ghost use Rattle.std.specs.Prelude.{◌≤◌, ◌≡◌, length};
+#![tactic(auto)]
 
-use libc::STDOUT_FILENO;
+ghost use Rattle.std.specs.Prelude.{◌≤◌, ◌≡◌, length};
 
 // 1 where the two are the same, else 0.
 fn hit(got: &[u8], want: &[u8]) -> u64
@@ -24,37 +24,35 @@ fn deciphers(key: &[u8; 16], plain: &[u8; 16], cipher: &[u8; 16]) -> u64
     hit(&got, plain)
 }
 
-fn tell(group: &[u8], hits: u64, of: u64) {
-    io::write_all(STDOUT_FILENO, group);
-    io::print_decimal(STDOUT_FILENO, hits);
-    io::write_all(STDOUT_FILENO, b" of ");
-    io::print_decimal(STDOUT_FILENO, of);
-    io::write_all(STDOUT_FILENO, b"\n");
+fn tell(rt: &HostRuntime, group: &str, hits: u64, of: u64) {
+    let _ = println!(rt; "{group}{hits} of {of}");
 }
 
-fn cipher_example() {
+fn cipher_example(rt: &HostRuntime) {
     let key = b"\x2b\x7e\x15\x16\x28\xae\xd2\xa6\xab\xf7\x15\x88\x09\xcf\x4f\x3c";
     let plain = b"\x32\x43\xf6\xa8\x88\x5a\x30\x8d\x31\x31\x98\xa2\xe0\x37\x07\x34";
     let cipher = b"\x39\x25\x84\x1d\x02\xdc\x09\xfb\xdc\x11\x85\x97\x19\x6a\x0b\x32";
     tell(
-        b"FIPS 197 B: ",
+        rt,
+        "FIPS 197 B: ",
         enciphers(key, plain, cipher) + deciphers(key, plain, cipher),
         2,
     );
 }
 
-fn example_vectors() {
+fn example_vectors(rt: &HostRuntime) {
     let key = b"\x00\x01\x02\x03\x04\x05\x06\x07\x08\x09\x0a\x0b\x0c\x0d\x0e\x0f";
     let plain = b"\x00\x11\x22\x33\x44\x55\x66\x77\x88\x99\xaa\xbb\xcc\xdd\xee\xff";
     let cipher = b"\x69\xc4\xe0\xd8\x6a\x7b\x04\x30\xd8\xcd\xb7\x80\x70\xb4\xc5\x5a";
     tell(
-        b"FIPS 197 C.1: ",
+        rt,
+        "FIPS 197 C.1: ",
         enciphers(key, plain, cipher) + deciphers(key, plain, cipher),
         2,
     );
 }
 
-fn ecb() {
+fn ecb(rt: &HostRuntime) {
     let key = b"\x2b\x7e\x15\x16\x28\xae\xd2\xa6\xab\xf7\x15\x88\x09\xcf\x4f\x3c";
     let p1 = b"\x6b\xc1\xbe\xe2\x2e\x40\x9f\x96\xe9\x3d\x7e\x11\x73\x93\x17\x2a";
     let c1 = b"\x3a\xd7\x7b\xb4\x0d\x7a\x36\x60\xa8\x9e\xca\xf3\x24\x66\xef\x97";
@@ -68,12 +66,12 @@ fn ecb() {
         + enciphers(key, p2, c2)
         + enciphers(key, p3, c3)
         + enciphers(key, p4, c4);
-    tell(b"SP 800-38A F.1.1: ", there, 4);
+    tell(rt, "SP 800-38A F.1.1: ", there, 4);
     let back = deciphers(key, p1, c1)
         + deciphers(key, p2, c2)
         + deciphers(key, p3, c3)
         + deciphers(key, p4, c4);
-    tell(b"SP 800-38A F.1.2: ", back, 4);
+    tell(rt, "SP 800-38A F.1.2: ", back, 4);
 }
 
 // How many of the four blocks are those wanted.
@@ -88,7 +86,7 @@ fn blocks(got: &[u8], want: &[u8]) -> u64
 }
 
 // The document's four blocks fill their length, so the padding adds a fifth, which opening takes off again.
-fn cbc() {
+fn cbc(rt: &HostRuntime) {
     let key = b"\x2b\x7e\x15\x16\x28\xae\xd2\xa6\xab\xf7\x15\x88\x09\xcf\x4f\x3c";
     let iv = b"\x00\x01\x02\x03\x04\x05\x06\x07\x08\x09\x0a\x0b\x0c\x0d\x0e\x0f";
     let plain =
@@ -97,15 +95,15 @@ fn cbc() {
         b"\x76\x49\xab\xac\x81\x19\xb2\x46\xce\xe9\x8e\x9b\x12\xe9\x19\x7d\x50\x86\xcb\x9b\x50\x72\x19\xee\x95\xdb\x11\x3a\x91\x76\x78\xb2\x73\xbe\xd6\xb8\xe3\xc1\x74\x3b\x71\x16\xe6\x9e\x22\x22\x95\x16\x3f\xf1\xca\xa1\x68\x1f\xac\x09\x12\x0e\xca\x30\x75\x86\xe1\xa7";
     let mut out = [0u8; 80];
     secure_cipher::encrypt_data(*key, *iv, plain, &mut out);
-    tell(b"SP 800-38A F.2.1: ", blocks(&out, cipher), 4);
+    tell(rt, "SP 800-38A F.2.1: ", blocks(&out, cipher), 4);
     let mut back = [0u8; 80];
     secure_cipher::decrypt_data(*key, *iv, &out, &mut back);
-    tell(b"SP 800-38A F.2.2: ", blocks(&back, plain), 4);
+    tell(rt, "SP 800-38A F.2.2: ", blocks(&back, plain), 4);
 }
 
-fn main() {
-    cipher_example();
-    example_vectors();
-    ecb();
-    cbc();
+fn main(rt: HostRuntime) {
+    cipher_example(&rt);
+    example_vectors(&rt);
+    ecb(&rt);
+    cbc(&rt);
 }
