@@ -1,15 +1,12 @@
 -- `crc::word_be` meets its contract: each byte is put in below the ones before it.
--- Assumes nothing.
 use Rattle.std.proofs.Common.{◌≡◌, ◌+◌, ◌*◌, ◌%◌, ◌^◌, arith, lit≤}
 use Rattle.packet_sums.specs.Word.{word_from}
 use Rattle.packet_sums.proofs.WordLaws.{or_next, or_last}
-use Rattle.packet_sums.proofs.crc.word_be.Statement.{statement}
-use Rattle.packet_sums.proofs.crc.word_be.Tie as tie
+use Rattle.packet_sums.proofs.crc.word_be.Goals as goal
 
-returns : tie.Need-returns
+pub returns : goal.returns
 unfolding word_from
-returns c =
-    let a = c.args in
+returns c = let a = c.args in
     let x0 = 0 * 256 + a.b0 in
     let x1 = x0 * 256 + a.b1 in
     let x2 = x1 * 256 + a.b2 in
@@ -25,6 +22,3 @@ returns c =
     let p5 = or_next 16 x4 a.b5 (omega arith) (lit≤ tt) p4 in
     let p6 = or_next 8 x5 a.b6 (omega arith) (lit≤ tt) p5 in
     or_last x6 a.b7 (omega arith) p6
-
-pub word-be-spec : {M : Type 1} → statement M
-word-be-spec = tie.close (tie.spec returns)
