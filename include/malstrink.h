@@ -3,10 +3,10 @@
 
    Link libmalstrink.a, which include/archive proves and makes, for x86-64 and for aarch64
    (docs/RULES.md has what each call does). The archive needs memcpy and memset and nothing else; it
-   keeps to the System V ABI of x86-64, or to the AAPCS64, and is ELF. For aarch64 a script rewrites
-   the exports' way of passing structs (include/aapcs64.awk): that is tested and not proved. Sizes
-   are of 64 bits there, and the proofs are for 64-bit sizes: on a 32-bit machine nothing here is
-   proved, and nothing is made for one. Wants C99 or C++11, and gcc or clang.
+   keeps to the System V ABI of x86-64, or to the AAPCS64, and is ELF. How the compiler passes structs
+   is tested and not proved. Sizes are of 64 bits there, and the proofs are for 64-bit sizes: on a
+   32-bit machine nothing here is proved, and nothing is made for one. Wants C99 or C++11, and gcc or
+   clang.
 
    WHAT A CALLER OWES.
    - A slice is a pointer and a length, of bytes that are there; a pointer of length 0 is not looked
