@@ -1,7 +1,7 @@
 -- What `head` says of a frame while its bytes arrive, how long it stands, and that a driver may rely on it (docs/RULES.md, 3.7): s is what
 -- is there, u and v are what follows.
 -- Assumes nothing.
-use Rattle.std.proofs.Common.{◌≡◌, ℕ, ◌+◌, ◌-◌, ◌<◌, ◌≤◌, Bool, true, false, List, [], ◌∷◌, ◌++◌, length, get_or, take, drop, sym, refl, ap, ◌∙◌, subst, append_assoc, arith, length-append, take-append-drop, length-take-le, take_all, take-take, ltb-false, ltb-true, le-ltb, lt-ltb, eqb-true, leb-true}
+use Rattle.std.proofs.Common.{◌≡◌, ℕ, ◌+◌, ◌<◌, ◌≤◌, Bool, true, false, List, [], ◌∷◌, ◌++◌, length, get_or, take, drop, sym, refl, ap, ◌∙◌, subst, arith, length-append, take-append-drop, length-take-le, take_all, take-take, ltb-false, ltb-true, le-ltb, lt-ltb, eqb-true, leb-true}
 use native.Mathlib.Decide.{dec_le}
 use borrow.Author.Tests.{eqb-false, not-true, not-false}
 use lib.ListN.{get_or-append}
