@@ -27,12 +27,12 @@ key-block k₁ k₂ (b ∷ bs) h₁ h₂ = h₁
 run_block : (k₁ k₂ v : List ℕ) (bs : List (List ℕ)) → Block k₁ → Block k₂ → Block v → Blocks bs → Block (mac_run k₁ k₂ v bs).full
 unfolding mac_run
 run_block k₁ k₂ v [] h₁ h₂ hv h = hv
-run_block k₁ k₂ v (b ∷ bs) h₁ h₂ hv h = run_block k₁ k₂ _ bs h₁ h₂ (E-block _ _ (key-block k₁ k₂ bs h₁ h₂) (block-xorl v b hv h.0)) h.1
+run_block k₁ k₂ v (b ∷ bs) h₁ h₂ hv h = run_block k₁ k₂ (E (key_for k₁ k₂ bs) (xorl v b)) bs h₁ h₂ (E-block _ _ (key-block k₁ k₂ bs h₁ h₂) (block-xorl v b hv h.0)) h.1
 
 run_steps : (k₁ k₂ v : List ℕ) (bs : List (List ℕ)) → (mac_run k₁ k₂ v bs).steps ≡ length bs
 unfolding mac_run
 run_steps k₁ k₂ v [] = refl
-run_steps k₁ k₂ v (b ∷ bs) = ap suc (run_steps k₁ k₂ _ bs)
+run_steps k₁ k₂ v (b ∷ bs) = ap suc (run_steps k₁ k₂ (E (key_for k₁ k₂ bs) (xorl v b)) bs)
 
 pub mac-block : (k₁ k₂ v l : List ℕ) → Block k₁ → Block k₂ → Block v → Bytes l → Block (mac_of k₁ k₂ v l).full
 unfolding mac_of

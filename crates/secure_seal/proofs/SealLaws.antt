@@ -162,14 +162,14 @@ module _ (k : SessionKeys) (v : List ℕ) (q : Asked) (hk : GoodKeys k) (hv : Bl
   pub sealed-data-length : length (sealed_data k v q) ≡ data_len_for q.encrypt q.payload
   sealed-data-length = data-length k.s_enc v q.payload hk.enc hv hq.payload q.encrypt
 
-  body_bytes : Bytes (body_with q (sealed_data k v q))
-  body_bytes =
+  body_is_bytes : Bytes (body_with q (sealed_data k v q))
+  body_is_bytes =
       rw (body_head q (sealed_data k v q))
       (bytes-append (head_with q) (sealed_data k v q) (head_is_bytes q hq) (data-bytes k.s_enc v q.payload hk.enc hv hq.payload q.encrypt))
 
   pub full_block : Block (sealed_frame k v q).full
   unfolding sealed_frame
-  full_block = mac-block k.s_mac1 k.s_mac2 v (body_with q (sealed_data k v q)) hk.mac₁ hk.mac₂ hv body_bytes
+  full_block = mac-block k.s_mac1 k.s_mac2 v (body_with q (sealed_data k v q)) hk.mac₁ hk.mac₂ hv body_is_bytes
 
   pub sealed-mac-length : length (sealed_mac k v q) ≡ 4
   sealed-mac-length = length-take-le 4 (sealed_frame k v q).full (omega (arith, full_block.size))

@@ -6,7 +6,7 @@ use mathlib.Core.List.{[], ◌∷◌}
 use denote.Struct.Declared.{row}
 use denote.Struct.Laws.{val}
 use denote.Laws.{Is}
-use borrow.Author.Rules.{length_unmapped, elem_fits_field}
+use borrow.Author.Rules.{elem_Fits}
 use Rattle.laws.specs.Blocks.{Block}
 use Rattle.secure_session.specs.declared.session.Session.{Session}
 use Rattle.secure_session.proofs.SessionLaws.{ChainBlocks}
@@ -22,10 +22,10 @@ module _ (s : Session) (h : Owned s) where
   enc-block =
       let k = s.keys.s_enc in
       let g = h.1.1.1.1.1.1.1.1.0.1.1.0.1 in
-      record { size = length_unmapped ℕ k 16 g.0.1; bytes = λ i. (elem_fits_field w8 w8 k _ i g.1 tt).fits }
+      record { size = g.0.1; bytes = λ i. (elem_Fits w8 w8 k _ i g.1 tt).fits }
 
   pub chain-kept : ChainBlocks s.chain
   chain-kept =
       let v = s.chain.value in
       let g = h.1.1.1.1.1.1.1.1.1.0.1.1.0.1 in
-      record { size = length_unmapped ℕ v 16 g.0.1; bytes = λ i. (elem_fits_field w8 w8 v _ i g.1 tt).fits }
+      record { size = g.0.1; bytes = λ i. (elem_Fits w8 w8 v _ i g.1 tt).fits }

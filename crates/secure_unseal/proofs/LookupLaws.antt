@@ -65,7 +65,7 @@ module _ (i : Bool) (start len : ℕ) (f w : Bor (List ℕ)) {s : Bor (List ℕ)
   out-for : runs_past (length s.now) start len ≡ runs_outside i start len f.now w.now
   out-for = ap (λ (l : List ℕ). runs_past (length l) start len) bytes-for
 
-  pub shows_nothing : {o : Bool} → o ≡ runs_past (length s.now) start len → o ≡ true → (f.ptr, []) ≡ lookup_seen i start len f w
+  pub shows_nothing : {o : Bool} → o ≡ runs_past (length s.now) start len → o ≡ true → (f.ref_ptr, []) ≡ lookup_seen i start len f w
   unfolding part_of part_start payload_shown lookup_slice lookup_start
   shows_nothing ho h = rw (← out-for, ← ho, h, zero-add)
 
