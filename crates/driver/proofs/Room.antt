@@ -8,8 +8,7 @@ use native.Mathlib.Omega.{arith}
 use lib.ListN.{length, take}
 use lib.Seq.{take-take, take-append-le, length-take-le}
 use Rattle.laws.specs.Answer.{Answer.given, Answer.refused}
-use Rattle.refusal.specs.Paper.{refusal_of}
-use Rattle.packet_parse.specs.Frame.{Head, Fields, head_of, parse_of, fields, parsed}
+use Rattle.packet_parse.specs.Frame.{Head, head_of, parse_of, fields, parsed}
 use Rattle.packet_parse.specs.Driver.{wanted_of}
 use Rattle.packet_parse.specs.declared.codec.Parsed.{Parsed}
 use Rattle.packet_parse.specs.declared.codec.ParsedPacket.{ParsedPacket}

@@ -1,0 +1,19 @@
+-- `head` is asked of five bytes, and its refusal is the refusal of the parse.
+use Rattle.std.proofs.Common.{rules, sym, ◌∙◌}
+use Rattle.packet_parse.proofs.Arriving.{wanted_of_five, wanted_of_few}
+use Rattle.driver.proofs.Room.{wanted_answered, wanted_refused, few_wanted}
+use Rattle.driver.proofs.arrive.frame_from.Goals as goal
+
+pub returns-then-room-lt-HEADER_LEN : goal.returns-then-room-lt-HEADER_LEN
+returns-then-room-lt-HEADER_LEN g c =
+    let few = c.if-room-lt-HEADER_LEN.true in (wanted_of_five c.args.room.now ∙ wanted_of_few _ few, few)
+
+pub rest_from-requires-clause-room_value : goal.rest_from-requires-clause-room_value
+rest_from-requires-clause-room_value g c = wanted_answered _ _ _ c.in-All.ensures.fills (sym c.in-Good.ensures)
+
+pub returns-in-Refused : goal.returns-in-Refused
+returns-in-Refused g c =
+    let w = wanted_refused _ _ _ _ c.in-All.ensures.fills (sym c.in-Refused.ensures) in (search rules, w.0, w.1)
+
+pub returns-in-Ended : goal.returns-in-Ended
+returns-in-Ended g c = (search rules, few_wanted _ _ c.in-Ended.ensures.fills.1, c.parse.ensures)
