@@ -166,6 +166,7 @@ fn parse_frame(f: &[u8], addr: Address, ctrl: ControlByte) -> Parsed
 
 // The first five bytes: whose frame, how long, and its control byte. LEN is told as it stands there, 0 to 65,535: a driver tests it
 // before it takes five away, and against its room (docs/RULES.md, 3.7).
+#[tactic(auto, unfolding(crate::specs::Frame::head_of, laws::specs::Answer::refuse_if, laws::specs::Answer::and_then))]
 pub fn head(buf: &[u8]) -> HeadAnswer
     ensures { head_answer result ≡ head_of buf.now }
 {
