@@ -1,0 +1,34 @@
+-- `secure_cipher::pad::pad_mac` meets its contract: nothing is added to whole blocks, and other bytes are padded as data.
+use mathlib.Core.Path.{sym, ap, ◌∙◌}
+use native.Mathlib.Omega.{arith}
+use lib.ListN.{length}
+use Rattle.laws.specs.Answer.{Answer.given}
+use Rattle.laws.specs.Buffer.{sized, written}
+use Rattle.laws.specs.Over.{write}
+use Rattle.slices.proofs.CopyLaws.{copied_all}
+use Rattle.secure_cipher.specs.Pad.{pad_mac}
+use Rattle.secure_cipher.proofs.PadLaws.{pad_mac_whole, pad_mac_part, fitting-short, fitting-good}
+use Rattle.secure_cipher.proofs.pad.pad_mac.Goals as goal
+
+pub returns-then-n-ne0 : goal.returns-then-n-ne0
+returns-then-n-ne0 c =
+    let a = c.args in
+    rw (pad_mac_part a.data.now (λ h. omega arith)) c.pad_data.ensures
+
+pub returns-then-out-n : goal.returns-then-out-n
+returns-then-out-n c =
+    let a = c.args in
+    let x = a.data.now in
+    let o = a.out.now in
+    let f = fitting-short (pad_mac x) (length o) (length x) (sym (ap length (pad_mac_whole x (omega arith)))) c.if-out-n.true in
+    record { result_value = ap sized f; out_after = ap (written o) f }
+
+pub returns : goal.returns
+returns c =
+    let a = c.args in
+    let x = a.data.now in
+    let e = pad_mac_whole x (omega arith) in
+    let o = a.out.now in
+    let n = sym (ap length e) in
+    let f = fitting-good (pad_mac x) (length o) (length x) n c.if-out-n.false in
+    record { result_value = ap given n ∙ ap sized f; out_after = copied_all o 0 x c.copy.ensures.out_after (omega arith) ∙ ap (write o 0) (sym e) ∙ ap (written o) f }
