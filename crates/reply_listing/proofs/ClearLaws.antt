@@ -8,7 +8,7 @@ use lib.Dec.{leb}
 use Rattle.packet_head.specs.Numbers.{REPLY_FLAG}
 use Rattle.packet_parse.specs.Frame.{Fields, MacAt, MacAt.no_mac, MacAt.mac_from}
 use Rattle.body_message.specs.Body.{read_of}
-use Rattle.reply_listing.specs.InClear.{Reply, Reply.no_reply, Reply.sealed, Reply.clear, unless_sealed, reply_in}
+use Rattle.reply_listing.specs.InClear.{Reply.no_reply, Reply.sealed, Reply.clear, unless_sealed, reply_in}
 
 module _ (F : Fields) (s : List ℕ) {b : Bool} (e : b ≡ leb REPLY_FLAG F.addr) where
   pub reply-none : b ≡ false → no_reply ≡ reply_in (record { fields = F; payload = s })
