@@ -15,7 +15,6 @@ use Rattle.secure_session.specs.Chain.{first_chain, with_chain}
 use Rattle.secure_session.specs.Session.{end_number, state_number, is_at, fresh, reset, with_step, secured}
 use Rattle.secure_session.specs.declared.session.End.TheVariants.{Controller, Reader}
 use Rattle.secure_session.specs.declared.session.End.{End}
-use Rattle.secure_session.specs.declared.chain.Chain.{Chain}
 use Rattle.secure_session.specs.declared.session.Session.{Session}
 use Rattle.secure_session.specs.declared.session.State.TheVariants.{Disconnected, Challenged, Cryptogrammed, Secure}
 use Rattle.secure_session.specs.declared.session.State.{State}

@@ -1,6 +1,5 @@
 -- What owning a session tells: whatever code holds one, its keys and what its chain keeps are blocks.
 -- Assumes nothing.
-use Prim.Native.Nat.{ℕ}
 use mir.Syntax.{w8}
 use mathlib.Core.List.{[], ◌∷◌}
 use denote.Struct.Declared.{row}

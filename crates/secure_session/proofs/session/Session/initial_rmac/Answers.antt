@@ -1,0 +1,12 @@
+-- `secure_session::session::Session::initial_rmac` meets its contract, case by case.
+use Rattle.secure_session.proofs.Cases.{beside, rmac-done, rmac-no}
+use Rattle.secure_session.proofs.session.Session.initial_rmac.Goals as goal
+
+pub returns-then-is_at : goal.returns-then-is_at
+returns-then-is_at c =
+    let p = beside (rmac-done c.args.self c.is_at.ensures c.if-is_at.true c.server_for.ensures
+    c.first_for-first.ensures) in record { result_value = p.0; block_value = p.1 }
+
+pub returns-else-is_at : goal.returns-else-is_at
+returns-else-is_at c =
+    let p = beside (rmac-no c.args.self c.is_at.ensures c.if-is_at.false) in record { result_value = p.0; block_value = p.1 }
