@@ -1,4 +1,6 @@
 // The C face, as a library: every answer is a number and values, every slice a pointer and a length. ffi_c exports these calls to C.
+#![tactic(auto)]
+
 mod body;
 mod build;
 mod channel;
