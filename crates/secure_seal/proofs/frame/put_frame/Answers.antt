@@ -1,0 +1,37 @@
+-- `secure_seal::frame::put_frame` meets its contract: its parts are written one after the other (proofs/FrameWritten).
+use mathlib.Core.Path.{◌≡◌, ◌∙◌}
+use Prim.Native.Nat.{◌+◌, ◌-◌, ◌≤◌}
+use native.Mathlib.Omega.{arith}
+use lib.ListN.{length, take, drop}
+use Rattle.laws.proofs.Lists.{part_length}
+use borrow.Rule.Slice.PartMut.{put_mid}
+use Rattle.secure_session.specs.Chain.{send_from}
+use Rattle.secure_session.proofs.SecureLaws.{mac_there}
+use Rattle.secure_seal.specs.Seal.{data_len_for, asked_of}
+use Rattle.secure_seal.proofs.FrameWritten.{frame-put, data_steps, mac_few}
+use Rattle.secure_seal.proofs.SealLaws.{payload-fits}
+use borrow.Author.Rules.{rules}
+use Rattle.secure_seal.proofs.frame.put_frame.Goals as goal
+
+pub overflow_add-result : goal.overflow_add-result
+overflow_add-result c = let a = c.args in
+    let d : c.put_data-hidden.result ≤ length a.«data».now + 1 =
+    rw c.put_data-hidden.ensures.1 (data_steps a.encrypt a.session.keys.s_enc (send_from a.session) a.«data».now) in
+    let e : c.mac_calls.result ≤ a.total - 6 + 1 = rw c.mac_calls.ensures (mac_few (a.total - 6)) in
+    omega (arith, d, e, payload-fits a.encrypt a.«data».now, c.requires.2, c.requires.3)
+
+pub returns : goal.returns
+returns c = let f = c.mac-made.result.block in
+    let lf : length f ≡ 16 = search rules in
+    let a = c.args in
+    let t = a.total in
+    let q = asked_of a.addr a.sqn a.direction a.encrypt a.code a.«data».now in
+    let o₁ = c.put_head.new.out in
+    let y = c.put_data-hidden.new.out in
+    let l₁ : length o₁ ≡ length a.out.now = omega arith in
+    let g : length y ≡ length (take (t - 6 - 8) (drop 8 o₁)) = search rules in
+    let ly : length y ≡ data_len_for a.encrypt a.«data».now =
+    g ∙ part_length o₁ 8 (t - 6 - 8) (omega (arith, l₁, c.requires.2, c.requires.4)) ∙ omega (arith, c.requires.2) in
+    let made = mac_there a.session c.requires.0 (take (t - 6) (put_mid 8 (t - 6 - 8) o₁ y)) c.mac-made.result c.mac-made.ensures.result_value c.mac-made.ensures.block_value in
+    frame-put a.session q a.out.now o₁ y _ t c.requires.2 c.requires.4 c.put_data-hidden.ensures.0 ly c.put_head.ensures c.scs_for.ensures
+    f _ _ c.mac_calls.result c.put_data-hidden.result lf c.put_data-hidden.ensures.1 c.mac_calls.ensures made.0 made.1 c.put_end.ensures

@@ -1,0 +1,38 @@
+-- `secure_seal::frame::seal` meets its contract: 16, what the tests of the frame answer, or the frame and the chain moved by its MAC.
+use mathlib.Core.Path.{◌≡◌, sym, ap, ◌∙◌}
+use native.Mathlib.Omega.{arith}
+use mathlib.Core.Bool.{not}
+use Prim.Native.Nat.{ℕ}
+use lib.ListN.{length}
+use Rattle.refusal.specs.Reading.{length_answer}
+use Rattle.secure_seal.specs.Seal.{Asked, asked_of, total_of, frame_test}
+use Rattle.secure_seal.proofs.SealCases.{tests_passed, told-not-secure, told-refused, told-done}
+use Rattle.secure_seal.proofs.frame.seal.Goals as goal
+
+pub returns-then-not-is_secure : goal.returns-then-not-is_secure
+returns-then-not-is_secure c = let asked : Asked = let a = c.args in asked_of a.addr a.sqn a.direction a.encrypt a.code a.«data».now in
+    let a = c.args in
+    told-not-secure a.session (asked) a.out.now _ c.is_secure.ensures (ap not c.if-not-is_secure.true) c.refused.ensures
+
+pub put_frame-requires : goal.put_frame-requires
+put_frame-requires c = let asked : Asked = let a = c.args in asked_of a.addr a.sqn a.direction a.encrypt a.code a.«data».now in
+    let answered : length_answer c.test.result ≡ frame_test (asked).sqn (total_of (asked)) (length c.args.out.now) = let a = c.args in
+    c.test.ensures ∙ ap (λ (t : ℕ). frame_test a.sqn.0 t (length a.out.now)) c.total_len.ensures in
+    let p = tests_passed (asked) (length c.args.out.now) c.in-Of.total (ap length_answer c.in-Of.is) (answered) in
+    (sym c.is_secure.ensures ∙ c.if-not-is_secure.false, p.sqn, sym p.total, omega (arith, p.most, p.total), omega (arith, p.room, p.total))
+
+pub returns-in-Refused : goal.returns-in-Refused
+returns-in-Refused c = let asked : Asked = let a = c.args in asked_of a.addr a.sqn a.direction a.encrypt a.code a.«data».now in
+    let answered : length_answer c.test.result ≡ frame_test (asked).sqn (total_of (asked)) (length c.args.out.now) = let a = c.args in
+    c.test.ensures ∙ ap (λ (t : ℕ). frame_test a.sqn.0 t (length a.out.now)) c.total_len.ensures in
+    let a = c.args in
+    told-refused a.session (asked) a.out.now _ c.is_secure.ensures (ap not c.if-not-is_secure.false) (answered) c.in-Refused.e
+    (ap length_answer c.in-Refused.is) c.refused-in-Refused.ensures
+
+pub returns-in-Of : goal.returns-in-Of
+returns-in-Of c = let asked : Asked = let a = c.args in asked_of a.addr a.sqn a.direction a.encrypt a.code a.«data».now in
+    let answered : length_answer c.test.result ≡ frame_test (asked).sqn (total_of (asked)) (length c.args.out.now) = let a = c.args in
+    c.test.ensures ∙ ap (λ (t : ℕ). frame_test a.sqn.0 t (length a.out.now)) c.total_len.ensures in
+    let a = c.args in
+    told-done a.session (asked) a.out.now _ c.is_secure.ensures (ap not c.if-not-is_secure.false) (answered) c.in-Of.total
+    (ap length_answer c.in-Of.is) c.put_frame.ensures
