@@ -66,10 +66,11 @@ pub fn receive_challenge(session: &mut Session, rnd_a: [u8; 8], rnd_b: [u8; 8]) 
     ensures block_value { result.block ≡ block_beside (receive_challenge_of session.old rnd_a rnd_b).answer }
 {
     let r = (*session).receive_challenge(rnd_a, rnd_b);
+    let block = r.block;
     *session = r.session;
     BlockAnswer {
         outcome: r.outcome,
-        block: r.block,
+        block,
     }
 }
 
@@ -78,10 +79,11 @@ pub fn receive_scrypt(session: &mut Session, server_cryptogram: [u8; 16]) -> Blo
     ensures block_value { result.block ≡ block_beside (receive_scrypt_of session.old server_cryptogram).answer }
 {
     let r = (*session).receive_scrypt(server_cryptogram);
+    let block = r.block;
     *session = r.session;
     BlockAnswer {
         outcome: r.outcome,
-        block: r.block,
+        block,
     }
 }
 
@@ -90,10 +92,11 @@ pub fn mac(session: &mut Session, bytes: &[u8]) -> BlockAnswer
     ensures block_value { result.block ≡ block_beside (make_mac session.old bytes.now).answer }
 {
     let r = (*session).mac(bytes);
+    let block = r.block;
     *session = r.session;
     BlockAnswer {
         outcome: r.outcome,
-        block: r.block,
+        block,
     }
 }
 
