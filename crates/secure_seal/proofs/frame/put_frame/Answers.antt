@@ -17,7 +17,7 @@ pub overflow_add-result : goal.overflow_add-result
 overflow_add-result c = let a = c.args in
     let d : c.put_data-hidden.result ≤ length a.«data».now + 1 =
     rw c.put_data-hidden.ensures.1 (data_steps a.encrypt a.session.keys.s_enc (send_from a.session) a.«data».now) in
-    let e : c.mac_calls.result ≤ a.total - 6 + 1 = rw c.mac_calls.ensures (mac_few (a.total - 6)) in
+    let e : c.mac_calls.result ≤ a.total + 1 = grind (arith, mac_few) in
     omega (arith, d, e, payload-fits a.encrypt a.«data».now, c.requires.2, c.requires.3)
 
 pub returns : goal.returns
