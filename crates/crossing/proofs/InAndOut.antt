@@ -13,7 +13,7 @@ use Rattle.secure_session.specs.Chain.{chain_in, chain_out}
 use Rattle.secure_session.specs.Session.{end_number, state_number}
 use Rattle.secure_session.specs.declared.chain.Chain.{Chain}
 use Rattle.secure_session.proofs.SessionLaws.{chain_out_in, chain_in_out}
-use Rattle.crossing.specs.Sessions.{end_arg, state_arg, session_with, session_arg, c_session}
+use Rattle.crossing.specs.Sessions.{end_arg, state_arg, session_arg, c_session}
 use Rattle.crossing.specs.declared.session.CSession.{CSession}
 
 -- what goes out can be read, and is read as it was

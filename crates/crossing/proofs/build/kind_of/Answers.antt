@@ -14,10 +14,10 @@ returns-then-ty-eq0 c l = rw c.if-ty-eq0.true
 
 pub returns-in-Good : goal.returns-in-Good
 unfolding block_arg
-returns-in-Good c l = 
+returns-in-Good c l =
     sym (choose_false _ _ _ (ne_eqb _ _ c.if-ty-eq0.false) ∙ then_given _ _ (λ (t : ℕ). given (scb t l)) (sym c.in-Good.ensures))
 
 pub returns-in-Refused : goal.returns-in-Refused
 unfolding block_arg
-returns-in-Refused c l = 
+returns-in-Refused c l =
     sym (choose_false _ _ _ (ne_eqb _ _ c.if-ty-eq0.false) ∙ then_refused _ _ _ (λ (t : ℕ). given (scb t l)) (sym c.in-Refused.ensures))

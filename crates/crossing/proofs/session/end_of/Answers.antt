@@ -14,6 +14,6 @@ returns-in-1 c = rw c.in-1.is
 
 pub returns-in_default : goal.returns-in_default
 unfolding end_arg choose
-returns-in_default c = 
+returns-in_default c =
     let n = c.in_default.in_default-own.rest in
     rw (ne_eqb _ 0 n.0.1, ne_eqb _ 1 n.1)

@@ -22,6 +22,6 @@ returns-in-3 c = rw c.in-3.is
 
 pub returns-in_default : goal.returns-in_default
 unfolding state_arg choose
-returns-in_default c = 
+returns-in_default c =
     let n = c.in_default.in_default-own.rest in
     rw (ne_eqb _ 0 n.0.0.0.1, ne_eqb _ 1 n.0.0.1, ne_eqb _ 2 n.0.1, ne_eqb _ 3 n.1)
