@@ -388,7 +388,7 @@ static inline void malstrink_clear(void *p, size_t n)
 
 /* How much stack a form below takes, and zeroes: more than the deepest call needs, as include/stack
    measures it. docs/PERFORMANCE.md, Stack, has the table, call by call. */
-#define MALSTRINK_STACK 2560
+#define MALSTRINK_STACK 4096
 
 /* A session crosses by value, so a call leaves copies of it on the stack. Each form below makes its
    call in a function of its own, which is not inlined, and zeroes the stack that this one had. */
