@@ -1,8 +1,7 @@
 -- `aes_field::field::mix` meets its contract: x times a byte is linear.
+use Rattle.std.proofs.Common.{refl}
 use Rattle.aes_field.proofs.Mixing.{mix-two}
-use Rattle.std.proofs.lemmas.Grind.{common_steps}
-use Rattle.std.proofs.Common.{arith}
 use Rattle.aes_field.proofs.field.mix.Goals as goal
 
 pub returns : goal.returns
-returns c = grind (arith, common_steps, mix-two)
+returns c = mix-two c.args.x _ _ _ _ c.turn_one-y.ensures refl c.twice_each.ensures c.turn_two.ensures

@@ -1,12 +1,21 @@
 -- `secure_cipher::mac::cbc_mac` meets its contract: of nothing the chain value; else the blocks before the last, and the last.
+use Prim.Native.Nat.{◌-◌, ◌/◌}
+use mathlib.Core.Path.{refl, ap, ◌∙◌}
 use native.Mathlib.Omega.{arith}
+use lib.ListN.{length}
+use Rattle.aes.specs.Cipher.{E}
 use Rattle.aes.proofs.Laws.{enciphers}
 use Rattle.secure_cipher.proofs.MacLaws.{mac_none, mac-last}
-use Rattle.std.proofs.lemmas.Grind.{common_steps}
 use Rattle.secure_cipher.proofs.mac.cbc_mac.Goals as goal
 
 pub returns-then-input-eq0 : goal.returns-then-input-eq0
-returns-then-input-eq0 c = grind (arith, common_steps, enciphers, mac_none, mac-last)
+returns-then-input-eq0 c = let a = c.args in
+    mac_none a.s_mac1 a.s_mac2 a.icv a.input.now c.if-input-eq0.true
 
 pub returns : goal.returns
-returns c = grind (arith, common_steps, enciphers, mac_none, mac-last)
+returns c = let a = c.args in
+    let l = a.input.now in
+    mac-last a.s_mac1 a.s_mac2 a.icv l c.chain-v.result c.last_mac_block.result c.encrypt-full.result
+    ((length l - 1) / 16) (omega (arith, c.if-input-eq0.false)) refl c.chain-v.ensures c.last_mac_block.ensures
+    (enciphers _ _ a.s_mac2 _ _ c.encrypt_tables-t.ensures c.encrypt_key-k.ensures c.encrypt-full.ensures ∙ ap (E a.s_mac2) c.xor.ensures)
+    _ (omega arith)
