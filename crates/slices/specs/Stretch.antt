@@ -1,6 +1,5 @@
 -- A slice as a promise tells it: where it begins in memory, and its bytes (docs/RULES.md, 3.5 and 8.5).
--- A reference has a name as well, under which the logic follows what it points at. A part of a slice has a new one, and no machine value holds it: so
--- no promise is on it, and `stretch_settled` (proofs/Stretches) needs none.
+-- Two slices that agree in these are one machine value with the same bytes: `stretch_settled` (proofs/Stretches).
 -- Assumes nothing.
 use Rattle.std.specs.Prelude.{List, ℕ, ◌+◌}
 use Rattle.std.specs.Borrow.{Bor}
