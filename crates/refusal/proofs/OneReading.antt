@@ -1,6 +1,7 @@
 -- A refusal has one reading: its number and its values give it back, so two that read alike are the same. The answers
 -- that crates share have one too.
 -- Assumes nothing.
+use Rattle.std.specs.Prelude.{Result, Ok, Err, ⊤}
 use mathlib.Core.Path.{◌≡◌, refl, sym, ap, ◌∙◌}
 use mathlib.Core.List.{List, [], ◌∷◌}
 use Prim.Native.Nat.{ℕ}
@@ -8,9 +9,7 @@ use lib.ListN.{get_or}
 use Rattle.laws.specs.Answer.{Answer, Answer.given, Answer.refused}
 use Rattle.laws.proofs.Answers.{one_reading}
 use Rattle.refusal.specs.Paper.{refusal_of, value_a, value_b, numbered_of}
-use Rattle.refusal.specs.Reading.{outcome_answer, length_answer}
-use Rattle.refusal.specs.declared.Outcome.{Outcome}
-use Rattle.refusal.specs.declared.LengthAnswer.{LengthAnswer}
+use Rattle.refusal.specs.Reading.{answer, outcome_answer, length_answer}
 use Rattle.refusal.specs.declared.Numbered.{Numbered}
 use Rattle.refusal.specs.declared.Refusal.{Refusal}
 
@@ -76,28 +75,34 @@ pub same_numbered : (r s : Refusal) → numbered_of r ≡ numbered_of s → r �
 same_numbered r s e =
     sym (told_back r) ∙ ap (λ (n : Numbered). get_or (table n.a n.b) n.number Refusal.WrongState) e ∙ told_back s
 
+-- ---- an answer whose words have one reading
+
+-- `back` finds what was given again in the paper's words
+abbrev pub answer_from : {A B : Type 0} → (B → A) → Answer B → Result A Refusal
+answer_from back (given b) = Ok (back b)
+answer_from back (refused n vs) = Err (named n vs)
+
+pub answer_back : {A B : Type 0} (words : A → B) (back : B → A) → ((a : A) → back (words a) ≡ a)
+    → (r : Result A Refusal) → answer_from back (answer words r) ≡ r
+answer_back words back h (Ok a) = ap Ok (h a)
+answer_back words back h (Err e) = ap Err (told_back e)
+
+pub answer_settled : {A B : Type 0} (words : A → B) (back : B → A) → ((a : A) → back (words a) ≡ a)
+    → (r s : Result A Refusal) → answer words r ≡ answer words s → r ≡ s
+answer_settled words back h = one_reading (answer words) (answer_from back) (answer_back words back h)
+
 -- ---- an outcome, whatever stands beside it
 
-abbrev pub outcome_from : {A : Type 0} → Answer A → Outcome
-outcome_from (given a) = Outcome.Done
-outcome_from (refused n vs) = Outcome.Refused (named n vs)
+abbrev pub outcome_from : {A : Type 0} → Answer A → Result ⊤ Refusal
+outcome_from a = answer_from (λ x. tt) a
 
-pub outcome_back : {A : Type 0} (o : Outcome) (a : A) → outcome_from (outcome_answer o a) ≡ o
-outcome_back Outcome.Done a = refl
-outcome_back (Outcome.Refused e) a = ap Outcome.Refused (told_back e)
+pub outcome_back : {A : Type 0} (o : Result ⊤ Refusal) (a : A) → outcome_from (outcome_answer o a) ≡ o
+outcome_back o a = answer_back (λ done. a) (λ x. tt) (λ done. refl) o
 
-pub outcome_settled : {A : Type 0} (o p : Outcome) (a b : A) → outcome_answer o a ≡ outcome_answer p b → o ≡ p
+pub outcome_settled : {A : Type 0} (o p : Result ⊤ Refusal) (a b : A) → outcome_answer o a ≡ outcome_answer p b → o ≡ p
 outcome_settled o p a b e = sym (outcome_back o a) ∙ ap outcome_from e ∙ outcome_back p b
 
 -- ---- a length
 
-abbrev length_from : Answer ℕ → LengthAnswer
-length_from (given n) = LengthAnswer.Of n
-length_from (refused n vs) = LengthAnswer.Refused (named n vs)
-
-length_back : (r : LengthAnswer) → length_from (length_answer r) ≡ r
-length_back (LengthAnswer.Of n) = refl
-length_back (LengthAnswer.Refused e) = ap LengthAnswer.Refused (told_back e)
-
-pub length_settled : (r s : LengthAnswer) → length_answer r ≡ length_answer s → r ≡ s
-length_settled = one_reading length_answer length_from length_back
+pub length_settled : (r s : Result ℕ Refusal) → length_answer r ≡ length_answer s → r ≡ s
+length_settled = answer_settled (λ n. n) (λ n. n) (λ n. refl)

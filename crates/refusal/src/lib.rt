@@ -28,20 +28,6 @@ pub enum Refusal {
     BadBody(u8),
 }
 
-// What a call answers that has nothing else to give.
-#[derive(Clone, Copy)]
-pub enum Outcome {
-    Done,
-    Refused(Refusal),
-}
-
-// What a call answers that gives a number of bytes.
-#[derive(Clone, Copy)]
-pub enum LengthAnswer {
-    Of(usize),
-    Refused(Refusal),
-}
-
 // A refusal as numbers: its own, and the two values that it carries; 0 stands for one that it does not carry.
 #[derive(Clone, Copy)]
 pub struct Numbered {
