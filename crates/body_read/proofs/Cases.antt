@@ -28,10 +28,10 @@ use Rattle.body_message.proofs.Listed.{Besides, read_unlisted}
 use Rattle.body_message.proofs.OneMessage.{read_good, read_bad}
 
 -- a refusal, as it is told
-pub told_bad : (r : ReadAnswer) (k : Kind) (s : List ℕ) → r ≡ ReadAnswer.Refused (Refusal.BadBody (code k)) → refused 19 (code k ∷ []) ≡ read_as k s → read_answer r s ≡ read_as k s
+pub told_bad : (r : ReadAnswer) (k : Kind) (s : List ℕ) → r ≡ Err (Refusal.BadBody (code k)) → refused 19 (code k ∷ []) ≡ read_as k s → read_answer r s ≡ read_as k s
 told_bad r k s e f = ap (λ (x : ReadAnswer). read_answer x s) e ∙ f
 
-pub unlisted : (r : ReadAnswer) (c : ℕ) (s : List ℕ) → r ≡ ReadAnswer.Refused (Refusal.BadBody c) → Besides (Unit {0}) kinds c → read_answer r s ≡ read_of c s
+pub unlisted : (r : ReadAnswer) (c : ℕ) (s : List ℕ) → r ≡ Err (Refusal.BadBody c) → Besides (Unit {0}) kinds c → read_answer r s ≡ read_of c s
 unlisted r c s e h = ap (λ (x : ReadAnswer). read_answer x s) e ∙ read_unlisted c s h
 
 module _ (k : Kind) (s : List ℕ) where

@@ -47,18 +47,18 @@ reading_back (Raw reader format bits) s = refl
 reading_back (Keypad reader count) s = refl
 
 abbrev read_from : Answer Message → ReadAnswer
-read_from (given m) = ReadAnswer.Good (reading_of (message_kind m) (message_numbers m))
-read_from (refused n vs) = ReadAnswer.Refused (named n vs)
+read_from (given m) = Ok (reading_of (message_kind m) (message_numbers m))
+read_from (refused n vs) = Err (named n vs)
 
 read_back : (s : List ℕ) (r : ReadAnswer) → read_from (read_answer r s) ≡ r
-read_back s (ReadAnswer.Good b) = ap ReadAnswer.Good (reading_back b s)
-read_back s (ReadAnswer.Refused e) = ap ReadAnswer.Refused (told_back e)
+read_back s (Ok b) = ap Ok (reading_back b s)
+read_back s (Err e) = ap Err (told_back e)
 
 pub read_settled : (s : List ℕ) (r q : ReadAnswer) → read_answer r s ≡ read_answer q s → r ≡ q
 read_settled s = one_reading (λ r. read_answer r s) read_from (read_back s)
 
 -- What `read` gives of a payload, with what is looked up there, holds the payload's every byte, and its code.
-pub reading_whole : (c : ℕ) (s : List ℕ) (b : Body) → Bytes s → read_answer (ReadAnswer.Good b) s ≡ read_of c s
+pub reading_whole : (c : ℕ) (s : List ℕ) (b : Body) → Bytes s → read_answer (Ok b) s ≡ read_of c s
     → (message_bytes (message_in b s) ≡ s) × (message_code (message_in b s) ≡ c)
 reading_whole c s b bytes e = read_whole c s (message_in b s) bytes (sym e)
 
@@ -73,7 +73,7 @@ no_bytes_there s at = by (runs_past (length s) at 0)
     by false = refl
 
 -- What `rest` shows of a payload that was read is the rest of its message: no byte of it is left out, and none is added.
-pub rest_shown : (c : ℕ) (s : List ℕ) (b : Body) → Bytes s → read_answer (ReadAnswer.Good b) s ≡ read_of c s
+pub rest_shown : (c : ℕ) (s : List ℕ) (b : Body) → Bytes s → read_answer (Ok b) s ≡ read_of c s
     → part_of s (rest_start_of b) (rest_length b (length s)) ≡ message_rest (message_in b s)
 rest_shown c s Ack h e = no_bytes_there s 0
 rest_shown c s (Nak error) h e = refl
@@ -85,23 +85,23 @@ rest_shown c s (Raw reader format bits) h e = refl
 rest_shown c s (Keypad reader count) h e = refl
 
 abbrev triple_back : Option message.Triple → TripleAnswer
-triple_back (some x) = TripleAnswer.Of (record { function = x.function; compliance = x.compliance; number = x.number })
-triple_back none = TripleAnswer.NoTriple
+triple_back (some x) = Some (record { function = x.function; compliance = x.compliance; number = x.number })
+triple_back none = None
 
 triple_back_lem : (r : TripleAnswer) → triple_back (triple_answer r) ≡ r
-triple_back_lem (TripleAnswer.Of x) = refl
-triple_back_lem TripleAnswer.NoTriple = refl
+triple_back_lem (Some x) = refl
+triple_back_lem None = refl
 
 pub triple_settled : (r q : TripleAnswer) → triple_answer r ≡ triple_answer q → r ≡ q
 triple_settled = one_reading triple_answer triple_back triple_back_lem
 
 abbrev badge_back : Option ℕ → BadgeAnswer
-badge_back (some n) = BadgeAnswer.Number n
-badge_back none = BadgeAnswer.NoNumber
+badge_back (some n) = Some n
+badge_back none = None
 
 badge_back_lem : (r : BadgeAnswer) → badge_back (badge_answer r) ≡ r
-badge_back_lem (BadgeAnswer.Number n) = refl
-badge_back_lem BadgeAnswer.NoNumber = refl
+badge_back_lem (Some n) = refl
+badge_back_lem None = refl
 
 pub badge_settled : (r q : BadgeAnswer) → badge_answer r ≡ badge_answer q → r ≡ q
 badge_settled = one_reading badge_answer badge_back badge_back_lem

@@ -7,9 +7,9 @@ use Rattle.body_read.specs.declared.lookup.TripleAnswer.{TripleAnswer}
 use Rattle.body_read.specs.declared.badge.BadgeAnswer.{BadgeAnswer}
 
 abbrev pub triple_answer : TripleAnswer → Option message.Triple
-triple_answer (TripleAnswer.Of t) = some (record { function = t.function; compliance = t.compliance; number = t.number })
-triple_answer TripleAnswer.NoTriple = none
+triple_answer (Some t) = some (record { function = t.function; compliance = t.compliance; number = t.number })
+triple_answer None = none
 
 abbrev pub badge_answer : BadgeAnswer → Option ℕ
-badge_answer (BadgeAnswer.Number n) = some n
-badge_answer BadgeAnswer.NoNumber = none
+badge_answer (Some n) = some n
+badge_answer None = none

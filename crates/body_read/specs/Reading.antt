@@ -48,5 +48,5 @@ abbrev pub message_in : Body → List ℕ → Message
 message_in b s = message_of (reading_kind b) (reading_numbers b) (part_of s (rest_start_of b) (rest_length b (length s)))
 
 abbrev pub read_answer : ReadAnswer → List ℕ → Answer Message
-read_answer (ReadAnswer.Good b) s = given (message_in b s)
-read_answer (ReadAnswer.Refused e) s = refusal_of e
+read_answer (Ok b) s = given (message_in b s)
+read_answer (Err e) s = refusal_of e

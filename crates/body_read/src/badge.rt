@@ -39,16 +39,16 @@ fn number_in(bits: u16, bytes: &[u8]) -> BadgeAnswer
     ensures { badge_answer result ≡ badge_in bits bytes.now }
 {
     if bits < 1 {
-        return BadgeAnswer::NoNumber;
+        return None;
     }
     if 64 < bits {
-        return BadgeAnswer::NoNumber;
+        return None;
     }
     if bytes.len() != bytes_for(bits) {
-        return BadgeAnswer::NoNumber;
+        return None;
     }
     let spare = bytes.len() * 8 - (bits as usize);
-    BadgeAnswer::Number(bits_as_number(bytes) >> spare)
+    Some(bits_as_number(bytes) >> spare)
 }
 
 // The bits of a RAW as they stand, the first one highest, where there are 1 to 64.
@@ -57,8 +57,8 @@ pub fn badge_number(body: Body, payload: &[u8]) -> BadgeAnswer
 {
     let bytes = rest(body, payload);
     match body {
-        Body::Ack => BadgeAnswer::NoNumber,
-        Body::Nak { error: _ } => BadgeAnswer::NoNumber,
+        Body::Ack => None,
+        Body::Nak { error: _ } => None,
         Body::PdId {
             vendor1: _,
             vendor2: _,
@@ -69,12 +69,12 @@ pub fn badge_number(body: Body, payload: &[u8]) -> BadgeAnswer
             major: _,
             minor: _,
             build: _,
-        } => BadgeAnswer::NoNumber,
-        Body::PdCap => BadgeAnswer::NoNumber,
+        } => None,
+        Body::PdCap => None,
         Body::LStatR {
             tamper: _,
             power: _,
-        } => BadgeAnswer::NoNumber,
+        } => None,
         Body::Raw {
             reader: _,
             format: _,
@@ -83,6 +83,6 @@ pub fn badge_number(body: Body, payload: &[u8]) -> BadgeAnswer
         Body::Keypad {
             reader: _,
             count: _,
-        } => BadgeAnswer::NoNumber,
+        } => None,
     }
 }

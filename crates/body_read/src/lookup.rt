@@ -111,8 +111,8 @@ pub fn triple_at(body: Body, payload: &[u8], i: usize) -> TripleAnswer
     ensures { triple_answer result ≡ message_triple (message_in body payload.now) i }
 {
     match body {
-        Body::Ack => TripleAnswer::NoTriple,
-        Body::Nak { error: _ } => TripleAnswer::NoTriple,
+        Body::Ack => None,
+        Body::Nak { error: _ } => None,
         Body::PdId {
             vendor1: _,
             vendor2: _,
@@ -123,21 +123,21 @@ pub fn triple_at(body: Body, payload: &[u8], i: usize) -> TripleAnswer
             major: _,
             minor: _,
             build: _,
-        } => TripleAnswer::NoTriple,
+        } => None,
         Body::PdCap => triple_in(payload, i),
         Body::LStatR {
             tamper: _,
             power: _,
-        } => TripleAnswer::NoTriple,
+        } => None,
         Body::Raw {
             reader: _,
             format: _,
             bits: _,
-        } => TripleAnswer::NoTriple,
+        } => None,
         Body::Keypad {
             reader: _,
             count: _,
-        } => TripleAnswer::NoTriple,
+        } => None,
     }
 }
 
@@ -145,10 +145,10 @@ fn triple_in(payload: &[u8], i: usize) -> TripleAnswer
     ensures { triple_answer result ≡ message_triple (message_in Body.PdCap payload.now) i }
 {
     if payload.len() / 3 <= i {
-        return TripleAnswer::NoTriple;
+        return None;
     }
     let at = i * 3;
-    TripleAnswer::Of(Triple {
+    Some(Triple {
         function: payload[at],
         compliance: payload[at + 1],
         number: payload[at + 2],

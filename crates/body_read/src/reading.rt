@@ -12,7 +12,7 @@ use slices::word;
 fn bad(code: u8) -> ReadAnswer
     ensures { result ≡ ReadAnswer.Refused (Refusal.BadBody code) }
 {
-    ReadAnswer::Refused(Refusal::BadBody(code))
+    Err(Refusal::BadBody(code))
 }
 
 // A number of four bytes, the lowest first.
@@ -35,7 +35,7 @@ fn ack(payload: &[u8]) -> ReadAnswer
     if payload.len() != 0 {
         return bad(0x40);
     }
-    ReadAnswer::Good(Body::Ack)
+    Ok(Body::Ack)
 }
 
 fn nak(payload: &[u8]) -> ReadAnswer
@@ -44,7 +44,7 @@ fn nak(payload: &[u8]) -> ReadAnswer
     if payload.len() == 0 {
         return bad(0x41);
     }
-    ReadAnswer::Good(Body::Nak { error: payload[0] })
+    Ok(Body::Nak { error: payload[0] })
 }
 
 fn pdid(payload: &[u8]) -> ReadAnswer
@@ -53,7 +53,7 @@ fn pdid(payload: &[u8]) -> ReadAnswer
     if payload.len() != 12 {
         return bad(0x45);
     }
-    ReadAnswer::Good(Body::PdId {
+    Ok(Body::PdId {
         vendor1: payload[0],
         vendor2: payload[1],
         vendor3: payload[2],
@@ -75,7 +75,7 @@ fn pdcap(payload: &[u8]) -> ReadAnswer
     if payload.len() % 3 != 0 {
         return bad(0x46);
     }
-    ReadAnswer::Good(Body::PdCap)
+    Ok(Body::PdCap)
 }
 
 fn lstatr(payload: &[u8]) -> ReadAnswer
@@ -84,7 +84,7 @@ fn lstatr(payload: &[u8]) -> ReadAnswer
     if payload.len() != 2 {
         return bad(0x48);
     }
-    ReadAnswer::Good(Body::LStatR {
+    Ok(Body::LStatR {
         tamper: payload[0],
         power: payload[1],
     })
@@ -100,7 +100,7 @@ fn raw(payload: &[u8]) -> ReadAnswer
     if payload.len() - 4 != bytes_for(bits) {
         return bad(0x50);
     }
-    ReadAnswer::Good(Body::Raw {
+    Ok(Body::Raw {
         reader: payload[0],
         format: payload[1],
         bits,
@@ -117,7 +117,7 @@ fn keypad(payload: &[u8]) -> ReadAnswer
     if payload.len() - 2 != count as usize {
         return bad(0x53);
     }
-    ReadAnswer::Good(Body::Keypad {
+    Ok(Body::Keypad {
         reader: payload[0],
         count,
     })

@@ -38,14 +38,14 @@ use Rattle.channel.specs.declared.messages.CarriedMessage.{CarriedMessage}
 
 -- ---- what is on the line
 
-pub line_of : (x : LengthAnswer) (n : ℕ) (o : List ℕ) → x ≡ LengthAnswer.Of n → take n o ≡ on_line (length_answer x) o
+pub line_of : (x : LengthAnswer) (n : ℕ) (o : List ℕ) → x ≡ Ok n → take n o ≡ on_line (length_answer x) o
 unfolding on_line
 line_of x n o e = ap (λ (y : LengthAnswer). on_line (length_answer y) o) (sym e)
 
-pub line_whole : (x : LengthAnswer) (n : ℕ) (o : List ℕ) → x ≡ LengthAnswer.Of n → length o < n → o ≡ on_line (length_answer x) o
+pub line_whole : (x : LengthAnswer) (n : ℕ) (o : List ℕ) → x ≡ Ok n → length o < n → o ≡ on_line (length_answer x) o
 line_whole x n o e h = sym (take_all n o (omega arith)) ∙ line_of x n o e
 
-pub line_none : (x : LengthAnswer) (e : Refusal) (o : List ℕ) → x ≡ LengthAnswer.Refused e → take 0 o ≡ on_line (length_answer x) o
+pub line_none : (x : LengthAnswer) (e : Refusal) (o : List ℕ) → x ≡ Err e → take 0 o ≡ on_line (length_answer x) o
 unfolding on_line
 line_none x e o p = ap (λ (y : LengthAnswer). on_line (length_answer y) o) (sym p)
 
@@ -106,7 +106,7 @@ transfer_settled r s o p w x e = (
 
 -- what the frame of a message is made of is what `build` is given, with no MAC
 pub wire_given : (ty : ScsType) (a : Address) (n : Sqn) (c : Bool) (l : List ℕ) (k : ℕ) (o x : List ℕ) (ctrl : ControlByte) → control ctrl ≡ record { sqn = n.0; crc = c; block = true }
-    → parts_given (record { addr = a; ctrl = ctrl; block = BuildBlock.Of ty; code = k }) l x GivenMac.Absent ≡ wire_parts (type_of ty) (wire_of a n c l k o) x
+    → parts_given (record { addr = a; ctrl = ctrl; block = Some ty; code = k }) l x None ≡ wire_parts (type_of ty) (wire_of a n c l k o) x
 wire_given ty a n c l k o x ctrl e = ap (λ (t : Control). record { addr = a.0; ctrl = t; block = scb (type_of ty) l; code = k; «data» = x; mac = [] }) e
 
 read_there : (f : List ℕ) (a : Answer Fields) → take (places_of a).payload.len (drop (places_of a).payload.at f) ≡ bytes_at f data_in a

@@ -11,7 +11,7 @@ pub fn on_line(out: &[u8], answer: LengthAnswer) -> &[u8]
     ensures { stretch_of result ≡ line_seen (length_answer answer) out.entry }
 {
     match answer {
-        LengthAnswer::Of(n) => { if n <= out.len() { &out[..n] } else { out } }
-        LengthAnswer::Refused(_) => &out[..0],
+        Ok(n) => { if n <= out.len() { &out[..n] } else { out } }
+        Err(_) => &out[..0],
     }
 }

@@ -34,10 +34,10 @@ pub fn carry(
     let builder = PacketBuilder {
         addr,
         ctrl,
-        block: BuildBlock::Of(ty),
+        block: Some(ty),
         code,
     };
-    let sent = packet_build::build(builder, block, message, GivenMac::Absent, out);
+    let sent = packet_build::build(builder, block, message, None, out);
     let p = packet_view::places_in(on_line(out, sent));
     CarriedMessage {
         sent,

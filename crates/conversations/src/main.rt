@@ -36,7 +36,7 @@ struct Passed {
 fn tell_sealed(rt: &HostRuntime, t: Transferred, frame: &[u8]) {
     let sealed = t.sealed;
     match sealed {
-        LengthAnswer::Of(len) => {
+        Ok(len) => {
             put_number(rt, len);
             put(rt, b" bytes, open:");
             put_open(rt, frame);
@@ -44,7 +44,7 @@ fn tell_sealed(rt: &HostRuntime, t: Transferred, frame: &[u8]) {
             put_number(rt, t.seal_calls);
             put(rt, b" calls");
         }
-        LengthAnswer::Refused(e) => {
+        Err(e) => {
             put(rt, b"sealed:");
             put_refused(rt, e);
         }
@@ -69,7 +69,7 @@ fn tell<'a>(rt: &HostRuntime, t: Transferred, payload: &[u8], out: &'a [u8], wor
             let shown = secure_unseal::payload(frame, work, in_work, start, len);
             put_yes(rt, check::same(shown, payload));
         }
-        PlaceAnswer::Refused(e) => {
+        Err(e) => {
             put(rt, b", opened:");
             put_refused(rt, e);
         }
@@ -144,8 +144,8 @@ fn send(rt: &HostRuntime, ends: Ends, a: Asked, payload: &[u8], room: Room) -> E
     let r = ends.reader;
     let who = a.who;
     let sqn = match Sqn::new(a.sqn) {
-        SqnAnswer::Good(n) => n,
-        SqnAnswer::Refused(e) => {
+        Ok(n) => n,
+        Err(e) => {
             put(rt, b"not sent:");
             put_refused(rt, e);
             put(rt, b"\n");

@@ -25,8 +25,8 @@ pub(crate) fn put_refused(rt: &HostRuntime, e: Refusal) {
 
 pub(crate) fn put_outcome(rt: &HostRuntime, o: Outcome) {
     match o {
-        Outcome::Done => put(rt, b" done"),
-        Outcome::Refused(e) => put_refused(rt, e),
+        Ok(()) => put(rt, b" done"),
+        Err(e) => put_refused(rt, e),
     }
 }
 
@@ -51,7 +51,7 @@ fn open_end(p: ParsedPacket) -> usize {
     let block = p.block;
     let mac = p.mac;
     match block {
-        BlockPart::Absent => 0,
+        None => 0,
         BlockPart::At {
             ty,
             start: _,
@@ -68,7 +68,7 @@ fn open_end(p: ParsedPacket) -> usize {
 
 pub(crate) fn put_open(rt: &HostRuntime, frame: &[u8]) {
     match packet_parse::parse(frame) {
-        Parsed::Good(p) => put_bytes(rt, frame, open_end(p)),
-        Parsed::Refused(e) => put_refused(rt, e),
+        Ok(p) => put_bytes(rt, frame, open_end(p)),
+        Err(e) => put_refused(rt, e),
     }
 }

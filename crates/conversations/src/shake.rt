@@ -77,11 +77,11 @@ fn reply_of(cuid: [u8; 8], rnd_b: [u8; 8], client: [u8; 16]) -> [u8; 32] {
 fn read(rt: &HostRuntime, out: &[u8], c: CarriedMessage) -> [u8; 32] {
     let sent = c.sent;
     match sent {
-        LengthAnswer::Of(_) => {
+        Ok(_) => {
             put(rt, b" ");
             put_number(rt, c.len);
         }
-        LengthAnswer::Refused(e) => put_refused(rt, e),
+        Err(e) => put_refused(rt, e),
     }
     let line = channel::on_line(out, sent);
     let message = slices::part(line, c.start, c.len);

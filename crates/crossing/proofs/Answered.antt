@@ -7,5 +7,5 @@ use Rattle.crossing.specs.Answers.{c_yes, c_outcome}
 
 -- an outcome says yes or the refusal, whatever stands beside it
 pub told-outcome : {A : Type 0} (o : Outcome) (a : A) → c_outcome o ≡ c_yes (outcome_answer o a)
-told-outcome Outcome.Done a = refl
-told-outcome (Outcome.Refused e) a = refl
+told-outcome (Ok tt) a = refl
+told-outcome (Err e) a = refl

@@ -28,8 +28,8 @@ ends-session c = of_ends c (end_arg c.end) (state_arg c.state)
 beside : (c : CSession) (o : Outcome) (p : End × State) → let a = outcome_answer o p in p ≡ ends_beside a
     → (outcome_answer o (at c p) ≡ and_then a (λ q. given (at c q))) × (at c p ≡ session_beside c (and_then a (λ q. given (at c q))))
 unfolding and_then
-beside c Outcome.Done p h = (refl, refl)
-beside c (Outcome.Refused e) p h = (refl, ap (at c) h)
+beside c (Ok tt) p h = (refl, refl)
+beside c (Err e) p h = (refl, ap (at c) h)
 
 pub ends-taken : (c : CSession) (o : Outcome) (p : End × State) → outcome_answer o p ≡ ends_arg c.end c.state → p ≡ ends_beside (ends_arg c.end c.state)
     → (outcome_answer o (at c p) ≡ session_arg c) × (at c p ≡ session_beside c (session_arg c))

@@ -22,33 +22,33 @@ use Rattle.crossing.specs.declared.session.Taken.{Taken}
 -- ---- what is to be built
 
 abbrev block_from : FrameBlock → BuildBlock
-block_from no_scb = BuildBlock.Absent
-block_from (scb t l) = BuildBlock.Of (type_from t)
+block_from no_scb = None
+block_from (scb t l) = Some (type_from t)
 
 block_back : (b : BuildBlock) → block_from (scb_given b []) ≡ b
-block_back BuildBlock.Absent = refl
-block_back (BuildBlock.Of t) = ap BuildBlock.Of (type_back t)
+block_back None = refl
+block_back (Some t) = ap Some (type_back t)
 
 abbrev packet_from : Answer FrameParts → AskedPacket
 packet_from (given q) =
-    AskedPacket.Good (record { addr = record { 0 = q.addr }; ctrl = control_from q.ctrl; block = block_from q.block; code = q.code })
-packet_from (refused n vs) = AskedPacket.Refused (named n vs)
+    Ok (record { addr = record { 0 = q.addr }; ctrl = control_from q.ctrl; block = block_from q.block; code = q.code })
+packet_from (refused n vs) = Err (named n vs)
 
-asked_back : (r : AskedPacket) → packet_from (asked_parts r [] [] GivenMac.Absent) ≡ r
-asked_back (AskedPacket.Good w) =
-    ap (λ (b : BuildBlock). AskedPacket.Good (record { addr = w.addr; ctrl = w.ctrl; block = b; code = w.code })) (block_back w.block)
-asked_back (AskedPacket.Refused e) = ap AskedPacket.Refused (told_back e)
+asked_back : (r : AskedPacket) → packet_from (asked_parts r [] [] None) ≡ r
+asked_back (Ok w) =
+    ap (λ (b : BuildBlock). Ok (record { addr = w.addr; ctrl = w.ctrl; block = b; code = w.code })) (block_back w.block)
+asked_back (Err e) = ap Err (told_back e)
 
 pub asked_settled : (p : CPacket) (r s : AskedPacket) → AskedMeets r p → AskedMeets s p → r ≡ s
 asked_settled p r s e f =
-    sym (asked_back r) ∙ ap packet_from (e [] [] GivenMac.Absent ∙ sym (f [] [] GivenMac.Absent)) ∙ asked_back s
+    sym (asked_back r) ∙ ap packet_from (e [] [] None ∙ sym (f [] [] None)) ∙ asked_back s
 
 abbrev mac_from : List ℕ → GivenMac
-mac_from [] = GivenMac.Absent
+mac_from [] = None
 mac_from (a ∷ l) = GivenMac.Is a (get_or l 0 0) (get_or l 1 0) (get_or l 2 0)
 
 mac_back : (m : GivenMac) → mac_from (mac_bytes m) ≡ m
-mac_back GivenMac.Absent = refl
+mac_back None = refl
 mac_back (GivenMac.Is a b c d) = refl
 
 pub given-mac_settled : (m k : GivenMac) → mac_bytes m ≡ mac_bytes k → m ≡ k

@@ -31,8 +31,8 @@ kind_answer (Kind.Good k) l = given (scb_given k l)
 kind_answer (Kind.Refused e) l = refusal_of e
 
 abbrev pub asked_parts : AskedPacket → List ℕ → List ℕ → GivenMac → Answer FrameParts
-asked_parts (AskedPacket.Good w) l d m = given (parts_given w l d m)
-asked_parts (AskedPacket.Refused e) l d m = refusal_of e
+asked_parts (Ok w) l d m = given (parts_given w l d m)
+asked_parts (Err e) l d m = refusal_of e
 
 -- what the functions below the exports promise, whatever bytes come beside
 abbrev pub KindMeets : Kind → ℕ → Type 0

@@ -101,12 +101,12 @@ c_keys_answer x = record { answer = c_yes x; keys = c_keys (keys_beside x) }
 -- ---- the code's kinds
 
 abbrev pub end_read : EndRead → Answer End
-end_read (EndRead.Good e) = given e
-end_read (EndRead.Refused e) = refusal_of e
+end_read (Ok e) = given e
+end_read (Err e) = refusal_of e
 
 abbrev pub state_read : StateRead → Answer State
-state_read (StateRead.Good t) = given t
-state_read (StateRead.Refused e) = refusal_of e
+state_read (Ok t) = given t
+state_read (Err e) = refusal_of e
 
 abbrev pub ends_read : Ends → Answer (End × State)
 ends_read r = outcome_answer r.outcome (r.end, r.state)

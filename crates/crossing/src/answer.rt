@@ -37,8 +37,8 @@ pub fn length_c(a: LengthAnswer) -> CAnswer
     ensures { result ≡ c_answer (length_answer a) }
 {
     match a {
-        LengthAnswer::Of(n) => given(n),
-        LengthAnswer::Refused(e) => refused(e),
+        Ok(n) => given(n),
+        Err(e) => refused(e),
     }
 }
 
@@ -46,7 +46,7 @@ pub fn outcome_c(o: Outcome) -> CAnswer
     ensures { result ≡ c_outcome o }
 {
     match o {
-        Outcome::Done => given(0),
-        Outcome::Refused(e) => refused(e),
+        Ok(()) => given(0),
+        Err(e) => refused(e),
     }
 }

@@ -149,12 +149,12 @@ fn raw_c(reader: u8, format: u8, bits: u16, payload: &[u8]) -> CBody
         },
         payload,
     ) {
-        BadgeAnswer::Number(n) => {
+        Some(n) => {
             c.has_number = true;
             c.number = n;
             c
         }
-        BadgeAnswer::NoNumber => c,
+        None => c,
     }
 }
 
@@ -203,8 +203,8 @@ pub fn body_c(a: ReadAnswer, payload: &[u8]) -> CBody
     ensures { result ≡ c_body (length payload.now) (read_answer a payload.now) }
 {
     match a {
-        ReadAnswer::Good(body) => good_c(body, payload),
-        ReadAnswer::Refused(e) => bare(refused(e), 0, 0, 0),
+        Ok(body) => good_c(body, payload),
+        Err(e) => bare(refused(e), 0, 0, 0),
     }
 }
 
@@ -212,13 +212,13 @@ fn told_triple(t: TripleAnswer) -> CTriple
     ensures { result ≡ c_triple (triple_answer t) }
 {
     match t {
-        TripleAnswer::Of(x) => CTriple {
+        Some(x) => CTriple {
             there: true,
             function: x.function,
             compliance: x.compliance,
             number: x.number,
         },
-        TripleAnswer::NoTriple => CTriple {
+        None => CTriple {
             there: false,
             function: 0,
             compliance: 0,
@@ -232,7 +232,7 @@ pub fn triple_c(a: ReadAnswer, payload: &[u8], i: usize) -> CTriple
     ensures { result ≡ c_triple_at i (read_answer a payload.now) }
 {
     match a {
-        ReadAnswer::Good(body) => told_triple(triple_at(body, payload, i)),
-        ReadAnswer::Refused(_) => told_triple(TripleAnswer::NoTriple),
+        Ok(body) => told_triple(triple_at(body, payload, i)),
+        Err(_) => told_triple(None),
     }
 }

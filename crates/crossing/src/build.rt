@@ -45,11 +45,11 @@ fn kind_of(ty: u8) -> Kind
     ensures { KindMeets result ty }
 {
     if ty == 0 {
-        return Kind::Good(BuildBlock::Absent);
+        return Ok(None);
     }
     match ScsType::from_byte(ty) {
-        ScsAnswer::Good(t) => Kind::Good(BuildBlock::Of(t)),
-        ScsAnswer::Refused(e) => Kind::Refused(e),
+        Ok(t) => Ok(Some(t)),
+        Err(e) => Err(e),
     }
 }
 
@@ -57,16 +57,16 @@ pub fn ask(p: CPacket) -> AskedPacket
     ensures { AskedMeets result p }
 {
     match Sqn::new(p.sqn) {
-        SqnAnswer::Good(sqn) => match kind_of(p.block_type) {
-            Kind::Good(block) => AskedPacket::Good(PacketBuilder {
+        Ok(sqn) => match kind_of(p.block_type) {
+            Ok(block) => Ok(PacketBuilder {
                 addr: Address::from_raw(p.addr),
                 ctrl: ControlByte::new(sqn, p.crc, p.block),
                 block,
                 code: p.code,
             }),
-            Kind::Refused(e) => AskedPacket::Refused(e),
+            Err(e) => Err(e),
         },
-        SqnAnswer::Refused(e) => AskedPacket::Refused(e),
+        Err(e) => Err(e),
     }
 }
 
@@ -76,6 +76,6 @@ pub fn mac_of(m: CMac) -> GivenMac
     if m.given {
         GivenMac::Is(m.b0, m.b1, m.b2, m.b3)
     } else {
-        GivenMac::Absent
+        None
     }
 }

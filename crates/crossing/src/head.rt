@@ -21,8 +21,8 @@ pub fn address_c(a: AddressAnswer) -> CAnswer
     ensures { result ≡ c_answer (address_answer a) }
 {
     match a {
-        AddressAnswer::Good(x) => given(x.as_byte() as usize),
-        AddressAnswer::Refused(e) => refused(e),
+        Ok(x) => given(x.as_byte() as usize),
+        Err(e) => refused(e),
     }
 }
 
@@ -30,8 +30,8 @@ pub fn sqn_c(a: SqnAnswer) -> CAnswer
     ensures { result ≡ c_answer (sqn_answer a) }
 {
     match a {
-        SqnAnswer::Good(x) => given(x.value() as usize),
-        SqnAnswer::Refused(e) => refused(e),
+        Ok(x) => given(x.value() as usize),
+        Err(e) => refused(e),
     }
 }
 
@@ -39,8 +39,8 @@ pub fn encoded_c(a: EncodedAnswer) -> CAnswer
     ensures { result ≡ c_answer (encoded_answer a) }
 {
     match a {
-        EncodedAnswer::Byte(b) => given(b as usize),
-        EncodedAnswer::Refused(e) => refused(e),
+        Ok(b) => given(b as usize),
+        Err(e) => refused(e),
     }
 }
 
@@ -48,8 +48,8 @@ pub fn scs_c(a: ScsAnswer) -> CAnswer
     ensures { result ≡ c_answer (scs_answer a) }
 {
     match a {
-        ScsAnswer::Good(t) => given(t.as_byte() as usize),
-        ScsAnswer::Refused(e) => refused(e),
+        Ok(t) => given(t.as_byte() as usize),
+        Err(e) => refused(e),
     }
 }
 
@@ -57,13 +57,13 @@ pub fn control_c(a: ControlAnswer) -> CControl
     ensures { result ≡ c_control (control_answer a) }
 {
     match a {
-        ControlAnswer::Good(c) => CControl {
+        Ok(c) => CControl {
             answer: given(0),
             sqn: c.sqn.value(),
             crc: c.crc,
             block: c.block,
         },
-        ControlAnswer::Refused(e) => CControl {
+        Err(e) => CControl {
             answer: refused(e),
             sqn: 0,
             crc: false,

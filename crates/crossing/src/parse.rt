@@ -53,7 +53,7 @@ pub fn block_c(a: ScbAnswer) -> CBlock
     ensures { result ≡ c_block (scb_answer a) }
 {
     match a {
-        ScbAnswer::Good(b) => {
+        Ok(b) => {
             let ty = b.ty;
             CBlock {
                 answer: given(0),
@@ -61,7 +61,7 @@ pub fn block_c(a: ScbAnswer) -> CBlock
                 data_len: b.data_len,
             }
         }
-        ScbAnswer::Refused(e) => CBlock {
+        Err(e) => CBlock {
             answer: refused(e),
             ty: 0,
             data_len: 0,
@@ -73,7 +73,7 @@ pub fn head_c(a: HeadAnswer) -> CHead
     ensures { result ≡ c_head (head_answer a) }
 {
     match a {
-        HeadAnswer::Good(h) => CHead {
+        Ok(h) => CHead {
             answer: given(0),
             addr: h.addr.as_byte(),
             len: h.len,
@@ -81,7 +81,7 @@ pub fn head_c(a: HeadAnswer) -> CHead
             crc: h.ctrl.crc,
             block: h.ctrl.block,
         },
-        HeadAnswer::Refused(e) => CHead {
+        Err(e) => CHead {
             answer: refused(e),
             addr: 0,
             len: 0,
@@ -96,7 +96,7 @@ fn block_type(b: BlockPart) -> u8
     ensures { result ≡ type_in (block_place b) }
 {
     match b {
-        BlockPart::Absent => 0,
+        None => 0,
         BlockPart::At {
             ty,
             start: _,
@@ -109,7 +109,7 @@ fn block_start(b: BlockPart) -> usize
     ensures { result ≡ block_start_in (block_place b) }
 {
     match b {
-        BlockPart::Absent => 0,
+        None => 0,
         BlockPart::At {
             ty: _,
             start,
@@ -122,7 +122,7 @@ fn block_len(b: BlockPart) -> usize
     ensures { result ≡ block_len_in (block_place b) }
 {
     match b {
-        BlockPart::Absent => 0,
+        None => 0,
         BlockPart::At {
             ty: _,
             start: _,
@@ -166,7 +166,7 @@ pub fn parsed_c(a: Parsed) -> CParsed
     ensures { result ≡ c_parsed (parsed a) }
 {
     match a {
-        Parsed::Good(p) => {
+        Ok(p) => {
             let block = p.block;
             let mac = p.mac;
             let trailer = p.trailer;
@@ -188,6 +188,6 @@ pub fn parsed_c(a: Parsed) -> CParsed
                 len: p.len,
             }
         }
-        Parsed::Refused(e) => nothing_parsed(refused(e)),
+        Err(e) => nothing_parsed(refused(e)),
     }
 }

@@ -59,7 +59,7 @@ fn seal_refused(x: Session, e: Refusal) -> Sealed
     ensures { result ≡ refused_with x e }
 {
     Sealed {
-        answer: LengthAnswer::Refused(e),
+        answer: Err(e),
         calls: 0,
         session: x,
     }
@@ -73,12 +73,12 @@ pub fn seal_asked(x: Session, p: CToSeal, data: &[u8], out: &mut [u8]) -> Sealed
         return seal_refused(x, Refusal::WrongState);
     }
     match Sqn::new(p.sqn) {
-        SqnAnswer::Good(sqn) => {
+        Ok(sqn) => {
             let addr = Address::from_raw(p.addr);
             let direction = direction_of(p.from_reader);
             secure_seal::seal(x, addr, sqn, direction, p.encrypt, p.code, data, out)
         }
-        SqnAnswer::Refused(e) => seal_refused(x, e),
+        Err(e) => seal_refused(x, e),
     }
 }
 
@@ -111,7 +111,7 @@ fn place_c(a: PlaceAnswer, calls: usize, session: CSession) -> CUnsealed
             calls,
             session,
         },
-        PlaceAnswer::Refused(e) => CUnsealed {
+        Err(e) => CUnsealed {
             answer: refused(e),
             in_work: false,
             start: 0,

@@ -92,9 +92,9 @@ fn end_of(n: u8) -> EndRead
     ensures { end_read result ≡ end_arg n }
 {
     match n {
-        0 => EndRead::Good(End::Controller),
-        1 => EndRead::Good(End::Reader),
-        _ => EndRead::Refused(Refusal::WrongState),
+        0 => Ok(End::Controller),
+        1 => Ok(End::Reader),
+        _ => Err(Refusal::WrongState),
     }
 }
 
@@ -102,11 +102,11 @@ fn state_of(n: u8) -> StateRead
     ensures { state_read result ≡ state_arg n }
 {
     match n {
-        0 => StateRead::Good(State::Disconnected),
-        1 => StateRead::Good(State::Challenged),
-        2 => StateRead::Good(State::Cryptogrammed),
-        3 => StateRead::Good(State::Secure),
-        _ => StateRead::Refused(Refusal::WrongState),
+        0 => Ok(State::Disconnected),
+        1 => Ok(State::Challenged),
+        2 => Ok(State::Cryptogrammed),
+        3 => Ok(State::Secure),
+        _ => Err(Refusal::WrongState),
     }
 }
 
@@ -151,7 +151,7 @@ fn no_ends(e: Refusal) -> Ends
     ensures { result ≡ record { outcome = Outcome.Refused e; end = Controller; state = Disconnected } }
 {
     Ends {
-        outcome: Outcome::Refused(e),
+        outcome: Err(e),
         end: End::Controller,
         state: State::Disconnected,
     }
@@ -163,15 +163,15 @@ fn ends_of(end: u8, state: u8) -> Ends
     ensures state_value { (result.end, result.state) ≡ ends_beside (ends_arg end state) }
 {
     match end_of(end) {
-        EndRead::Good(end) => match state_of(state) {
-            StateRead::Good(state) => Ends {
-                outcome: Outcome::Done,
+        Ok(end) => match state_of(state) {
+            Ok(state) => Ends {
+                outcome: Ok(()),
                 end,
                 state,
             },
-            StateRead::Refused(e) => no_ends(e),
+            Err(e) => no_ends(e),
         },
-        EndRead::Refused(e) => no_ends(e),
+        Err(e) => no_ends(e),
     }
 }
 

@@ -74,7 +74,7 @@ read_as_line room u p n a =
     a.2 ∙ sym (parse_decided (take n room) u (omega (arith, a.1)))
 
 -- and where it accepts, just the frame was read;
-pub read_whole_frame : (room : List ℕ) (p : ParsedPacket) (n : ℕ) → Arrives room (Arrival.Read (Parsed.Good p) n) → n ≡ p.len
+pub read_whole_frame : (room : List ℕ) (p : ParsedPacket) (n : ℕ) → Arrives room (Arrival.Read (Ok p) n) → n ≡ p.len
 read_whole_frame room p n a = sym a.1 ∙ accepted_wanted (take n room) (fields p) (sym a.2)
 
 -- of a line that ended before, it is refusal 1, with how many bytes came and how many are wanted.

@@ -94,9 +94,9 @@ pub(crate) fn frame_from<L: Read>(line: &mut L, room: &mut [u8]) -> Arrival
     }
     match fill(line, room, 0, HEADER_LEN) {
         There::All(five) => match head(&room[..five]) {
-            HeadAnswer::Good(h) => rest_from(line, room, h.len),
-            HeadAnswer::Refused(e) => Arrival::Read {
-                answer: Parsed::Refused(e),
+            Ok(h) => rest_from(line, room, h.len),
+            Err(e) => Arrival::Read {
+                answer: Err(e),
                 len: five,
             },
         },

@@ -26,8 +26,8 @@ fn fail(rt: &HostRuntime, what: &str, e: io::Error) {
 // Lists what was read, and answers whether to go on.
 fn put_read(rt: &HostRuntime, at: usize, answer: Parsed) -> bool {
     match answer {
-        Parsed::Good(p) => listing::put_frame(rt, b"driver", true, at, p),
-        Parsed::Refused(e) => {
+        Ok(p) => listing::put_frame(rt, b"driver", true, at, p),
+        Err(e) => {
             listing::put_refusal(rt, b"driver", true, at, e);
             false
         }

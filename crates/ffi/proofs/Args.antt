@@ -31,9 +31,9 @@ body_not_asked p l d have n vs e = then_refused _ _ _ (λ (x : FrameParts). body
 
 -- whatever MAC was given, some kind of it has these bytes
 abbrev pub kind_of_mac : CMac → GivenMac
-kind_of_mac m = cond m.given (GivenMac.Is m.b0 m.b1 m.b2 m.b3) GivenMac.Absent
+kind_of_mac m = cond m.given (GivenMac.Is m.b0 m.b1 m.b2 m.b3) None
 
-kind_bytes : (t : Bool) (a b c d : ℕ) → cond t (a ∷ b ∷ c ∷ d ∷ []) [] ≡ mac_bytes (cond t (GivenMac.Is a b c d) GivenMac.Absent)
+kind_bytes : (t : Bool) (a b c d : ℕ) → cond t (a ∷ b ∷ c ∷ d ∷ []) [] ≡ mac_bytes (cond t (GivenMac.Is a b c d) None)
 kind_bytes true a b c d = refl
 kind_bytes false a b c d = refl
 

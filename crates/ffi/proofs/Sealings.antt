@@ -20,7 +20,7 @@ use Rattle.crossing.specs.declared.seal.CToSeal.{CToSeal}
 use Rattle.ffi.proofs.Taking.{readable, unreadable, is_read, not-read}
 
 module _ (c : CSession) (r : Taken) (h : taken r ≡ session_arg c) where
-  module _ (y : r.outcome ≡ Outcome.Done) where
+  module _ (y : r.outcome ≡ (Ok tt)) where
     pub seal-read : (p : CToSeal) (x o : List ℕ) (d : Sealed) (after : List ℕ) → seal_told d after ≡ seal_of r.session (asked_arg p x) o → record { told = told_sealed d; out = after } ≡ seal_arg c p x o
     unfolding seal_arg
     seal-read p x o d after e = ap (λ (z : SealDone). record { told = c_sealed z; out = z.out }) e ∙ sym (readable _ r.session _ _ (is_read c r h y))
@@ -29,7 +29,7 @@ module _ (c : CSession) (r : Taken) (h : taken r ≡ session_arg c) where
     unfolding unseal_arg
     unseal-read f w d after e = ap (λ (z : UnsealDone). record { told = c_unsealed z.answer z.steps (c_session z.session); work = z.work }) e ∙ sym (readable _ r.session _ _ (is_read c r h y))
 
-  module _ (e : Refusal) (y : r.outcome ≡ Outcome.Refused e) where
+  module _ (e : Refusal) (y : r.outcome ≡ Err e) where
     pub seal-not : (p : CToSeal) (x o : List ℕ) → record { told = record { answer = c_refusal e; calls = 0; session = c }; out = o } ≡ seal_arg c p x o
     unfolding seal_arg
     seal-not p x o = sym (unreadable _ (number_of e) (values_of e) _ _ (not-read c r h e y))

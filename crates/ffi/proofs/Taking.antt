@@ -58,7 +58,7 @@ unfolding reading
 unreadable x n vs f g e = rw e
 
 module _ (c : CSession) (r : Taken) (h : taken r ≡ session_arg c) where
-  module _ (y : r.outcome ≡ Outcome.Done) where
+  module _ (y : r.outcome ≡ (Ok tt)) where
     pub is_read : session_arg c ≡ given r.session
     is_read = sym h ∙ ap (λ (o : Outcome). outcome_answer o r.session) y
 
@@ -82,7 +82,7 @@ module _ (c : CSession) (r : Taken) (h : taken r ≡ session_arg c) where
     unfolding done_arg
     done-read o f d e = e ∙ sym (readable _ r.session f _ is_read)
 
-  module _ (e : Refusal) (y : r.outcome ≡ Outcome.Refused e) where
+  module _ (e : Refusal) (y : r.outcome ≡ Err e) where
     pub not-read : session_arg c ≡ refusal_of e
     not-read = sym h ∙ ap (λ (o : Outcome). outcome_answer o r.session) y
 

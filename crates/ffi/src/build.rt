@@ -13,8 +13,8 @@ pub fn malstrink_build(p: CPacket, block: &[u8], data: &[u8], mac: CMac, out: &m
     ensures out_after { out.new ≡ written out.old (build_arg p block.now «data».now (mac_arg mac) (length out.old)) }
 {
     match ask(p) {
-        AskedPacket::Good(w) => length_c(packet_build::build(w, block, data, mac_of(mac), out)),
-        AskedPacket::Refused(e) => refused(e),
+        Ok(w) => length_c(packet_build::build(w, block, data, mac_of(mac), out)),
+        Err(e) => refused(e),
     }
 }
 
@@ -24,7 +24,7 @@ pub fn malstrink_build_body(p: CPacket, block: &[u8], data: &[u8], out: &mut [u8
     ensures out_after { out.new ≡ written out.old (body_arg p block.now «data».now (length out.old)) }
 {
     match ask(p) {
-        AskedPacket::Good(w) => length_c(packet_build::build_body(w, block, data, out)),
-        AskedPacket::Refused(e) => refused(e),
+        Ok(w) => length_c(packet_build::build_body(w, block, data, out)),
+        Err(e) => refused(e),
     }
 }

@@ -43,8 +43,8 @@ pub fn malstrink_session_mac(s: CSession, bytes: &[u8]) -> CSteppedBlock
     let outcome = t.outcome;
     let x = t.session;
     match outcome {
-        Outcome::Done => stepped_block_c(x.mac(bytes)),
-        Outcome::Refused(e) => no_stepped_block(s, e),
+        Ok(()) => stepped_block_c(x.mac(bytes)),
+        Err(e) => no_stepped_block(s, e),
     }
 }
 
@@ -56,11 +56,11 @@ pub fn malstrink_session_verify(s: CSession, bytes: &[u8], wire_mac: Bytes4) -> 
     let outcome = t.outcome;
     let x = t.session;
     match outcome {
-        Outcome::Done => {
+        Ok(()) => {
             let m = wire_mac.bytes;
             stepped_c(x.verify(bytes, m))
         }
-        Outcome::Refused(e) => no_step(s, e),
+        Err(e) => no_step(s, e),
     }
 }
 
@@ -71,8 +71,8 @@ pub fn malstrink_session_keys(s: CSession) -> CKeysAnswer
     let outcome = t.outcome;
     let x = t.session;
     match outcome {
-        Outcome::Done => keys_answer_c(x.keys()),
-        Outcome::Refused(e) => no_keys(e),
+        Ok(()) => keys_answer_c(x.keys()),
+        Err(e) => no_keys(e),
     }
 }
 
@@ -84,8 +84,8 @@ pub fn malstrink_session_last_other_mac(s: CSession) -> CBlockAnswer
     let outcome = t.outcome;
     let x = t.session;
     match outcome {
-        Outcome::Done => block_answer_c(x.last_other_mac()),
-        Outcome::Refused(e) => no_block(e),
+        Ok(()) => block_answer_c(x.last_other_mac()),
+        Err(e) => no_block(e),
     }
 }
 
@@ -97,8 +97,8 @@ pub fn malstrink_session_seal_data(s: CSession, data: &[u8], out: &mut [u8]) -> 
     let outcome = t.outcome;
     let x = t.session;
     match outcome {
-        Outcome::Done => ciphered_c(x.seal_data(data, out)),
-        Outcome::Refused(e) => no_ciphered(e),
+        Ok(()) => ciphered_c(x.seal_data(data, out)),
+        Err(e) => no_ciphered(e),
     }
 }
 
@@ -110,7 +110,7 @@ pub fn malstrink_session_open_data(s: CSession, data: &[u8], out: &mut [u8]) -> 
     let outcome = t.outcome;
     let x = t.session;
     match outcome {
-        Outcome::Done => ciphered_c(x.open_data(data, out)),
-        Outcome::Refused(e) => no_ciphered(e),
+        Ok(()) => ciphered_c(x.open_data(data, out)),
+        Err(e) => no_ciphered(e),
     }
 }

@@ -30,8 +30,8 @@ pub fn malstrink_sqn_next(n: u8) -> CAnswer
     ensures { result ≡ c_answer (and_then (sqn_of n) next_of) }
 {
     match Sqn::new(n) {
-        SqnAnswer::Good(s) => sqn_c(s.next()),
-        SqnAnswer::Refused(e) => refused(e),
+        Ok(s) => sqn_c(s.next()),
+        Err(e) => refused(e),
     }
 }
 
@@ -45,8 +45,8 @@ pub fn malstrink_control_encode(sqn: u8, crc: bool, block: bool) -> CAnswer
     ensures { result ≡ c_answer (and_then (sqn_of sqn) (λ n. encode_of (record { sqn = n; crc = crc; block = block }))) }
 {
     match Sqn::new(sqn) {
-        SqnAnswer::Good(s) => encoded_c(ControlByte::new(s, crc, block).encode()),
-        SqnAnswer::Refused(e) => refused(e),
+        Ok(s) => encoded_c(ControlByte::new(s, crc, block).encode()),
+        Err(e) => refused(e),
     }
 }
 

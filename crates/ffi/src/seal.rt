@@ -35,8 +35,8 @@ pub fn malstrink_seal(s: CSession, p: CToSeal, data: &[u8], out: &mut [u8]) -> C
     let outcome = t.outcome;
     let x = t.session;
     match outcome {
-        Outcome::Done => sealed_c(seal_asked(x, p, data, out)),
-        Outcome::Refused(e) => CSealed {
+        Ok(()) => sealed_c(seal_asked(x, p, data, out)),
+        Err(e) => CSealed {
             answer: refused(e),
             calls: 0,
             session: s,
@@ -53,8 +53,8 @@ pub fn malstrink_unseal(s: CSession, frame: &[u8], work: &mut [u8]) -> CUnsealed
     let outcome = t.outcome;
     let x = t.session;
     match outcome {
-        Outcome::Done => unsealed_c(secure_unseal::unseal(x, frame, work)),
-        Outcome::Refused(e) => no_payload(s, e),
+        Ok(()) => unsealed_c(secure_unseal::unseal(x, frame, work)),
+        Err(e) => no_payload(s, e),
     }
 }
 

@@ -90,11 +90,11 @@ pub fn malstrink_session_challenge(s: CSession, rnd_a: Bytes8) -> CStepped
     let outcome = t.outcome;
     let x = t.session;
     match outcome {
-        Outcome::Done => {
+        Ok(()) => {
             let a = rnd_a.bytes;
             stepped_c(x.challenge(a))
         }
-        Outcome::Refused(e) => no_step(s, e),
+        Err(e) => no_step(s, e),
     }
 }
 
@@ -110,13 +110,13 @@ pub fn malstrink_session_receive_ccrypt(
     let outcome = t.outcome;
     let x = t.session;
     match outcome {
-        Outcome::Done => {
+        Ok(()) => {
             let u = cuid.bytes;
             let b = rnd_b.bytes;
             let c = client_cryptogram.bytes;
             stepped_c(x.receive_ccrypt(u, b, c))
         }
-        Outcome::Refused(e) => no_step(s, e),
+        Err(e) => no_step(s, e),
     }
 }
 
@@ -127,8 +127,8 @@ pub fn malstrink_session_server_cryptogram(s: CSession) -> CBlockAnswer
     let outcome = t.outcome;
     let x = t.session;
     match outcome {
-        Outcome::Done => block_answer_c(x.server_cryptogram()),
-        Outcome::Refused(e) => no_block(e),
+        Ok(()) => block_answer_c(x.server_cryptogram()),
+        Err(e) => no_block(e),
     }
 }
 
@@ -139,8 +139,8 @@ pub fn malstrink_session_initial_rmac(s: CSession) -> CBlockAnswer
     let outcome = t.outcome;
     let x = t.session;
     match outcome {
-        Outcome::Done => block_answer_c(x.initial_rmac()),
-        Outcome::Refused(e) => no_block(e),
+        Ok(()) => block_answer_c(x.initial_rmac()),
+        Err(e) => no_block(e),
     }
 }
 
@@ -151,11 +151,11 @@ pub fn malstrink_session_confirm_rmac_i(s: CSession, rmac_i: Bytes16) -> CSteppe
     let outcome = t.outcome;
     let x = t.session;
     match outcome {
-        Outcome::Done => {
+        Ok(()) => {
             let m = rmac_i.bytes;
             stepped_c(x.confirm_rmac_i(m))
         }
-        Outcome::Refused(e) => no_step(s, e),
+        Err(e) => no_step(s, e),
     }
 }
 
@@ -172,12 +172,12 @@ pub fn malstrink_session_receive_challenge(
     let outcome = t.outcome;
     let x = t.session;
     match outcome {
-        Outcome::Done => {
+        Ok(()) => {
             let a = rnd_a.bytes;
             let b = rnd_b.bytes;
             stepped_block_c(x.receive_challenge(a, b))
         }
-        Outcome::Refused(e) => no_stepped_block(s, e),
+        Err(e) => no_stepped_block(s, e),
     }
 }
 
@@ -188,10 +188,10 @@ pub fn malstrink_session_receive_scrypt(s: CSession, server_cryptogram: Bytes16)
     let outcome = t.outcome;
     let x = t.session;
     match outcome {
-        Outcome::Done => {
+        Ok(()) => {
             let c = server_cryptogram.bytes;
             stepped_block_c(x.receive_scrypt(c))
         }
-        Outcome::Refused(e) => no_stepped_block(s, e),
+        Err(e) => no_stepped_block(s, e),
     }
 }

@@ -20,11 +20,11 @@ fn put_refused(rt: &HostRuntime, e: Refusal) {
 
 fn put_code(rt: &HostRuntime, bytes: &[u8]) {
     match packet::parse(bytes) {
-        Parsed::Good(p) => {
+        Ok(p) => {
             let code = p.code;
             let _ = println!(rt; "code {code}");
         }
-        Parsed::Refused(e) => put_refused(rt, e),
+        Err(e) => put_refused(rt, e),
     }
 }
 
@@ -50,10 +50,10 @@ fn handshake(scbk: [u8; 16], cuid: [u8; 8], rnd_a: [u8; 8], rnd_b: [u8; 8]) -> E
 
 fn put_number(rt: &HostRuntime, body: Body, payload: &[u8]) {
     match body_read::badge_number(body, payload) {
-        BadgeAnswer::Number(n) => {
+        Some(n) => {
             let _ = println!(rt; "badge {n}");
         }
-        BadgeAnswer::NoNumber => {
+        None => {
             let _ = println!(rt; "no number");
         }
     }
@@ -61,16 +61,16 @@ fn put_number(rt: &HostRuntime, body: Body, payload: &[u8]) {
 
 fn put_body(rt: &HostRuntime, code: u8, payload: &[u8]) {
     match body_read::read(code, payload) {
-        ReadAnswer::Good(body) => put_number(rt, body, payload),
-        ReadAnswer::Refused(e) => put_refused(rt, e),
+        Ok(body) => put_number(rt, body, payload),
+        Err(e) => put_refused(rt, e),
     }
 }
 
 // The code stands in the frame as it came, the payload where unsealing put it.
 fn put_reply(rt: &HostRuntime, frame: &[u8], payload: &[u8]) {
     match packet::parse(frame) {
-        Parsed::Good(p) => put_body(rt, p.code, payload),
-        Parsed::Refused(e) => put_refused(rt, e),
+        Ok(p) => put_body(rt, p.code, payload),
+        Err(e) => put_refused(rt, e),
     }
 }
 
@@ -87,7 +87,7 @@ fn put_opened(rt: &HostRuntime, controller: Session, frame: &[u8]) {
             let payload = secure::payload(frame, &work, in_work, start, len);
             put_reply(rt, frame, payload);
         }
-        PlaceAnswer::Refused(e) => put_refused(rt, e),
+        Err(e) => put_refused(rt, e),
     }
 }
 
@@ -105,8 +105,8 @@ fn seal_badge(rt: &HostRuntime, reader: Session, controller: Session, badge: &[u
     );
     let length = sealed.answer;
     match length {
-        LengthAnswer::Of(_) => put_opened(rt, controller, &frame),
-        LengthAnswer::Refused(e) => put_refused(rt, e),
+        Ok(_) => put_opened(rt, controller, &frame),
+        Err(e) => put_refused(rt, e),
     }
 }
 
@@ -118,10 +118,10 @@ fn main(rt: HostRuntime) {
     let controller = ends.controller;
     let reader = ends.reader;
     match outcome {
-        Outcome::Done => {
+        Ok(()) => {
             let badge = [0, 1, 26, 0, 0x8F, 0xA3, 0x40, 0x40];
             seal_badge(&rt, reader, controller, &badge)
         }
-        Outcome::Refused(e) => put_refused(&rt, e),
+        Err(e) => put_refused(&rt, e),
     }
 }

@@ -129,7 +129,7 @@ pub fn frame_at(rt: &HostRuntime, program: &[u8], ok: bool, capture: &[u8], at: 
     ensures { parsed result ≡ parse_of (drop at capture.now) }
 {
     let answer = packet_parse::parse(bytes_from(capture, at));
-    if let Parsed::Refused(e) = answer {
+    if let Err(e) = answer {
         put_refusal(rt, program, ok, at, e);
     }
     answer
@@ -143,11 +143,11 @@ pub fn list(rt: &HostRuntime, capture: &[u8]) -> usize
     let mut at = 0;
     while at < capture.len() {
         match frame_at(rt, b"framelist", ok, capture, at) {
-            Parsed::Good(p) => {
+            Ok(p) => {
                 ok = put_line(rt, ok, at, p);
                 at += p.len;
             }
-            Parsed::Refused(_) => return at,
+            Err(_) => return at,
         }
     }
     at

@@ -120,11 +120,11 @@ body_of p have =
 -- ---- the code's kinds, as the paper has them; data beside an absent block is no part of the packet
 
 abbrev pub scb_given : BuildBlock → List ℕ → FrameBlock
-scb_given BuildBlock.Absent l = no_scb
-scb_given (BuildBlock.Of ty) l = scb (type_of ty) l
+scb_given None l = no_scb
+scb_given (Some ty) l = scb (type_of ty) l
 
 abbrev pub mac_bytes : GivenMac → List ℕ
-mac_bytes GivenMac.Absent = []
+mac_bytes None = []
 mac_bytes (GivenMac.Is a b c d) = a ∷ b ∷ c ∷ d ∷ []
 
 abbrev pub parts_given : PacketBuilder → List ℕ → List ℕ → GivenMac → FrameParts

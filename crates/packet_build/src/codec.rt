@@ -28,7 +28,7 @@ impl GivenMac {
         ensures { (result ≡ length (mac_bytes self)) × (result ≤ MAC_LEN) }
     {
         match self {
-            GivenMac::Absent => 0,
+            None => 0,
             GivenMac::Is(_, _, _, _) => MAC_LEN,
         }
     }
@@ -50,7 +50,7 @@ impl PacketBuilder {
         Self {
             addr,
             ctrl,
-            block: BuildBlock::Absent,
+            block: None,
             code,
         }
     }
@@ -71,9 +71,9 @@ pub fn build(
         Tested::Total(total, ctrl) => {
             let n = put_body(out, w, ctrl, block, data, total);
             let m = put_mac(out, n, mac);
-            LengthAnswer::Of(put_tail(out, m, w.ctrl.crc))
+            Ok(put_tail(out, m, w.ctrl.crc))
         }
-        Tested::Refused(e) => LengthAnswer::Refused(e),
+        Tested::Refused(e) => Err(e),
     }
 }
 
@@ -84,7 +84,7 @@ pub fn build_body(w: PacketBuilder, block: &[u8], data: &[u8], out: &mut [u8]) -
     ensures out_after { out.new ≡ written out.old (body_of (parts_given w block.now «data».now GivenMac.Absent) (length out.old)) }
 {
     match test_parts(w, block, data, MAC_LEN, out.len()) {
-        Tested::Total(total, ctrl) => LengthAnswer::Of(put_body(out, w, ctrl, block, data, total)),
-        Tested::Refused(e) => LengthAnswer::Refused(e),
+        Tested::Total(total, ctrl) => Ok(put_body(out, w, ctrl, block, data, total)),
+        Tested::Refused(e) => Err(e),
     }
 }

@@ -18,8 +18,8 @@ fn put_block(out: &mut [u8], block: BuildBlock, bytes: &[u8]) -> usize
     ensures out_after { out.new ≡ write out.old HEADER_LEN (block_bytes (scb_given block bytes.now)) }
 {
     match block {
-        BuildBlock::Absent => HEADER_LEN,
-        BuildBlock::Of(ty) => {
+        None => HEADER_LEN,
+        Some(ty) => {
             let head = [(bytes.len() + SCB_HEADER_LEN) as u8, ty.as_byte()];
             slices::copy(out, HEADER_LEN, &head);
             slices::copy(out, SCB_DATA_AT, bytes);
@@ -60,7 +60,7 @@ pub(crate) fn put_mac(out: &mut [u8], at: usize, mac: GivenMac) -> usize
     ensures out_after { out.new ≡ write out.old at (mac_bytes mac) }
 {
     match mac {
-        GivenMac::Absent => at,
+        None => at,
         GivenMac::Is(a, b, c, d) => {
             let four = [a, b, c, d];
             slices::copy(out, at, &four);

@@ -50,8 +50,8 @@ fn test(ctrl: ControlByte, z: Sizes) -> Tested
     ensures { tested result ≡ with_ctrl (control ctrl) (test_of (control ctrl) (sizes z)) }
 {
     let byte = match ctrl.encode() {
-        EncodedAnswer::Byte(b) => b,
-        EncodedAnswer::Refused(e) => return Tested::Refused(e),
+        Ok(b) => b,
+        Err(e) => return Tested::Refused(e),
     };
     if differ(z.has_block, ctrl.block) {
         return Tested::Refused(Refusal::BadControlByte(byte));
@@ -94,7 +94,7 @@ pub(crate) fn test_parts(
 {
     let kind = w.block;
     match kind {
-        BuildBlock::Absent => test(
+        None => test(
             w.ctrl,
             Sizes {
                 has_block: false,
@@ -105,7 +105,7 @@ pub(crate) fn test_parts(
                 room: have,
             },
         ),
-        BuildBlock::Of(ty) => test(
+        Some(ty) => test(
             w.ctrl,
             Sizes {
                 has_block: true,

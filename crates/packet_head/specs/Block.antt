@@ -1,13 +1,13 @@
 -- The security block and its types (docs/RULES.md, 2.4 and 3).
 -- Assumes nothing.
-use Rattle.std.specs.Prelude.{ℕ, ◌-◌, Bool, ◌&&◌, not, List, [], ◌∷◌, ltb, leb, length, get_or}
+use Rattle.std.specs.Prelude.{ℕ, ◌-◌, Bool, ◌&&◌, not, List, [], ◌∷◌, ltb, leb, length, get_or, Result}
 use Rattle.laws.specs.Answer.{Answer, Answer.given, and_then, refuse_if}
-use Rattle.refusal.specs.Paper.{refusal_of}
+use Rattle.refusal.specs.Reading.{answer}
+use Rattle.refusal.specs.declared.Refusal.{Refusal}
 use Rattle.packet_head.specs.Numbers.{SCB_HEADER_LEN}
 use Rattle.packet_head.specs.declared.scb.ScsType.{ScsType}
 use Rattle.packet_head.specs.declared.scb.ScsType.TheVariants.{Scs11, Scs12, Scs13, Scs14, Scs15, Scs16, Scs17, Scs18}
-use Rattle.packet_head.specs.declared.scb.ScsAnswer.{ScsAnswer}
-use Rattle.packet_head.specs.declared.scb.ScbAnswer.{ScbAnswer}
+use Rattle.packet_head.specs.declared.scb.Scb.{Scb}
 
 -- whether b is one of low to high
 abbrev pub between : ℕ → ℕ → ℕ → Bool
@@ -52,10 +52,8 @@ type_of Scs16 = 0x16
 type_of Scs17 = 0x17
 type_of Scs18 = 0x18
 
-abbrev pub scs_answer : ScsAnswer → Answer ℕ
-scs_answer (ScsAnswer.Good t) = given (type_of t)
-scs_answer (ScsAnswer.Refused e) = refusal_of e
+abbrev pub scs_answer : Result ScsType Refusal → Answer ℕ
+scs_answer r = answer type_of r
 
-abbrev pub scb_answer : ScbAnswer → Answer BlockRead
-scb_answer (ScbAnswer.Good b) = given (record { type = type_of b.ty; data_len = b.data_len })
-scb_answer (ScbAnswer.Refused e) = refusal_of e
+abbrev pub scb_answer : Result Scb Refusal → Answer BlockRead
+scb_answer r = answer (λ b. record { type = type_of b.ty; data_len = b.data_len }) r

@@ -1,14 +1,13 @@
 -- Addresses, sequence numbers and the control byte (docs/RULES.md, 2.2 and 2.3).
 -- Assumes nothing.
-use Rattle.std.specs.Prelude.{ℕ, ◌+◌, ◌/◌, ◌%◌, [], ◌∷◌, Bool, cond, ltb, leb, eqb}
+use Rattle.std.specs.Prelude.{ℕ, ◌+◌, ◌/◌, ◌%◌, [], ◌∷◌, Bool, cond, ltb, leb, eqb, Result}
 use Rattle.laws.specs.Answer.{Answer, Answer.given, refuse_if}
-use Rattle.refusal.specs.Paper.{refusal_of}
+use Rattle.refusal.specs.Reading.{answer}
+use Rattle.refusal.specs.declared.Refusal.{Refusal}
 use Rattle.packet_head.specs.Numbers.{BROADCAST_ADDR, REPLY_FLAG, MAX_SQN, USE_CRC, HAS_SCB}
-use Rattle.packet_head.specs.declared.header.AddressAnswer.{AddressAnswer}
-use Rattle.packet_head.specs.declared.header.SqnAnswer.{SqnAnswer}
+use Rattle.packet_head.specs.declared.header.Address.{Address}
+use Rattle.packet_head.specs.declared.header.Sqn.{Sqn}
 use Rattle.packet_head.specs.declared.header.ControlByte.{ControlByte}
-use Rattle.packet_head.specs.declared.header.ControlAnswer.{ControlAnswer}
-use Rattle.packet_head.specs.declared.header.EncodedAnswer.{EncodedAnswer}
 
 -- ---- an address: above the broadcast address, 7F, refusal 9
 
@@ -47,21 +46,17 @@ encode_of c = refuse_if (ltb MAX_SQN c.sqn) 10 (c.sqn ∷ []) (given (ctrl_byte 
 
 -- ---- the code's answers, as the paper has them
 
-abbrev pub address_answer : AddressAnswer → Answer ℕ
-address_answer (AddressAnswer.Good a) = given a.0
-address_answer (AddressAnswer.Refused e) = refusal_of e
+abbrev pub address_answer : Result Address Refusal → Answer ℕ
+address_answer r = answer (λ a. a.0) r
 
-abbrev pub sqn_answer : SqnAnswer → Answer ℕ
-sqn_answer (SqnAnswer.Good n) = given n.0
-sqn_answer (SqnAnswer.Refused e) = refusal_of e
+abbrev pub sqn_answer : Result Sqn Refusal → Answer ℕ
+sqn_answer r = answer (λ n. n.0) r
 
 abbrev pub control : ControlByte → Control
 control c = record { sqn = c.sqn.0; crc = c.crc; block = c.block }
 
-abbrev pub control_answer : ControlAnswer → Answer Control
-control_answer (ControlAnswer.Good c) = given (control c)
-control_answer (ControlAnswer.Refused e) = refusal_of e
+abbrev pub control_answer : Result ControlByte Refusal → Answer Control
+control_answer r = answer control r
 
-abbrev pub encoded_answer : EncodedAnswer → Answer ℕ
-encoded_answer (EncodedAnswer.Byte b) = given b
-encoded_answer (EncodedAnswer.Refused e) = refusal_of e
+abbrev pub encoded_answer : Result ℕ Refusal → Answer ℕ
+encoded_answer r = answer (λ b. b) r

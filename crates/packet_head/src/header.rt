@@ -7,14 +7,8 @@ use super::numbers::{BROADCAST_ADDR, MAX_SQN, REPLY_FLAG};
 use refusal::Refusal;
 
 // The address byte of a frame, with the reply flag.
-#[derive(Clone, Copy)]
+#[derive(Clone, Copy, PartialEq, Eq)]
 pub struct Address(u8);
-
-#[derive(Clone, Copy)]
-pub enum AddressAnswer {
-    Good(Address),
-    Refused(Refusal),
-}
 
 impl Address {
     // Every reader takes a frame with this address for its own.
@@ -31,23 +25,25 @@ impl Address {
     }
 
     // For a frame from the controller.
-    pub fn pd(addr: u8) -> AddressAnswer
+    #[tactic(auto, unfolding(crate::specs::Header::pd_of, laws::specs::Answer::refuse_if))]
+    pub fn pd(addr: u8) -> Result<Self, Refusal>
         ensures { address_answer result ≡ pd_of addr }
     {
         if addr > BROADCAST_ADDR {
-            return AddressAnswer::Refused(Refusal::BadAddress(addr));
+            return Err(Refusal::BadAddress(addr));
         }
-        AddressAnswer::Good(Self(addr))
+        Ok(Self(addr))
     }
 
     // For a frame from the reader.
-    pub fn reply(addr: u8) -> AddressAnswer
+    #[tactic(auto, unfolding(crate::specs::Header::reply_of, laws::specs::Answer::refuse_if))]
+    pub fn reply(addr: u8) -> Result<Self, Refusal>
         ensures { address_answer result ≡ reply_of addr }
     {
         if addr > BROADCAST_ADDR {
-            return AddressAnswer::Refused(Refusal::BadAddress(addr));
+            return Err(Refusal::BadAddress(addr));
         }
-        AddressAnswer::Good(Self(addr + Self::REPLY_FLAG))
+        Ok(Self(addr + Self::REPLY_FLAG))
     }
 
     pub fn as_byte(self) -> u8
@@ -77,26 +73,21 @@ impl Address {
 }
 
 // A sequence number, 0 to 3.
-#[derive(Clone, Copy)]
+#[derive(Clone, Copy, PartialEq, Eq)]
 pub struct Sqn(u8);
-
-#[derive(Clone, Copy)]
-pub enum SqnAnswer {
-    Good(Sqn),
-    Refused(Refusal),
-}
 
 impl Sqn {
     // The number at the start and after a fault.
     pub const ZERO: Self = Self(0);
 
-    pub fn new(n: u8) -> SqnAnswer
+    #[tactic(auto, unfolding(crate::specs::Header::sqn_of, laws::specs::Answer::refuse_if))]
+    pub fn new(n: u8) -> Result<Self, Refusal>
         ensures { sqn_answer result ≡ sqn_of n }
     {
         if n > MAX_SQN {
-            return SqnAnswer::Refused(Refusal::BadSqn(n));
+            return Err(Refusal::BadSqn(n));
         }
-        SqnAnswer::Good(Self(n))
+        Ok(Self(n))
     }
 
     pub fn value(self) -> u8
@@ -106,38 +97,27 @@ impl Sqn {
     }
 
     // The number of the next command: 0 comes only at the start.
-    pub fn next(self) -> SqnAnswer
+    #[tactic(auto, unfolding(crate::specs::Header::next_of, laws::specs::Answer::refuse_if))]
+    pub fn next(self) -> Result<Self, Refusal>
         ensures { sqn_answer result ≡ next_of self.0 }
     {
         let n = self.0;
         match n {
-            0 => SqnAnswer::Good(Self(1)),
-            1 => SqnAnswer::Good(Self(2)),
-            2 => SqnAnswer::Good(Self(3)),
-            3 => SqnAnswer::Good(Self(1)),
-            _ => SqnAnswer::Refused(Refusal::BadSqn(n)),
+            0 => Ok(Self(1)),
+            1 => Ok(Self(2)),
+            2 => Ok(Self(3)),
+            3 => Ok(Self(1)),
+            _ => Err(Refusal::BadSqn(n)),
         }
     }
 }
 
 // The control byte, taken apart: the two flags as yes or no.
-#[derive(Clone, Copy)]
+#[derive(Clone, Copy, PartialEq, Eq)]
 pub struct ControlByte {
     pub sqn: Sqn,
     pub crc: bool,
     pub block: bool,
-}
-
-#[derive(Clone, Copy)]
-pub enum ControlAnswer {
-    Good(ControlByte),
-    Refused(Refusal),
-}
-
-#[derive(Clone, Copy)]
-pub enum EncodedAnswer {
-    Byte(u8),
-    Refused(Refusal),
 }
 
 fn flag(on: bool, bit: u8) -> u8
@@ -159,13 +139,14 @@ impl ControlByte {
         Self { sqn, crc, block }
     }
 
-    pub fn decode(byte: u8) -> ControlAnswer
+    #[tactic(auto, unfolding(crate::specs::Header::control_of, laws::specs::Answer::refuse_if))]
+    pub fn decode(byte: u8) -> Result<Self, Refusal>
         ensures { control_answer result ≡ control_of byte }
     {
         if 16 <= byte {
-            return ControlAnswer::Refused(Refusal::BadControlByte(byte));
+            return Err(Refusal::BadControlByte(byte));
         }
-        ControlAnswer::Good(ControlByte {
+        Ok(Self {
             sqn: Sqn(byte % 4),
             crc: byte / Self::USE_CRC % 2 == 1,
             block: byte / Self::HAS_SCB == 1,
@@ -173,14 +154,15 @@ impl ControlByte {
     }
 
     // An SQN above 3 is refused: reduced, it would be another frame's number.
-    pub fn encode(self) -> EncodedAnswer
+    #[tactic(auto, unfolding(crate::specs::Header::encode_of, laws::specs::Answer::refuse_if))]
+    pub fn encode(self) -> Result<u8, Refusal>
         ensures { encoded_answer result ≡ encode_of (control self) }
     {
         let n = self.sqn.0;
         if MAX_SQN < n {
-            return EncodedAnswer::Refused(Refusal::BadSqn(n));
+            return Err(Refusal::BadSqn(n));
         }
-        EncodedAnswer::Byte(n + flag(self.crc, Self::USE_CRC) + flag(self.block, Self::HAS_SCB))
+        Ok(n + flag(self.crc, Self::USE_CRC) + flag(self.block, Self::HAS_SCB))
     }
 
     pub fn use_crc(self) -> bool

@@ -7,7 +7,7 @@ use super::numbers::SCB_HEADER_LEN;
 use refusal::Refusal;
 
 // The type of a security block, 11 to 18.
-#[derive(Clone, Copy)]
+#[derive(Clone, Copy, PartialEq, Eq)]
 pub enum ScsType {
     Scs11,
     Scs12,
@@ -19,26 +19,21 @@ pub enum ScsType {
     Scs18,
 }
 
-#[derive(Clone, Copy)]
-pub enum ScsAnswer {
-    Good(ScsType),
-    Refused(Refusal),
-}
-
 impl ScsType {
-    pub fn from_byte(b: u8) -> ScsAnswer
+    #[tactic(auto, unfolding(crate::specs::Block::scs_of, laws::specs::Answer::refuse_if))]
+    pub fn from_byte(b: u8) -> Result<Self, Refusal>
         ensures { scs_answer result ≡ scs_of b }
     {
         match b {
-            0x11 => ScsAnswer::Good(ScsType::Scs11),
-            0x12 => ScsAnswer::Good(ScsType::Scs12),
-            0x13 => ScsAnswer::Good(ScsType::Scs13),
-            0x14 => ScsAnswer::Good(ScsType::Scs14),
-            0x15 => ScsAnswer::Good(ScsType::Scs15),
-            0x16 => ScsAnswer::Good(ScsType::Scs16),
-            0x17 => ScsAnswer::Good(ScsType::Scs17),
-            0x18 => ScsAnswer::Good(ScsType::Scs18),
-            _ => ScsAnswer::Refused(Refusal::BadSecurityBlock(b)),
+            0x11 => Ok(ScsType::Scs11),
+            0x12 => Ok(ScsType::Scs12),
+            0x13 => Ok(ScsType::Scs13),
+            0x14 => Ok(ScsType::Scs14),
+            0x15 => Ok(ScsType::Scs15),
+            0x16 => Ok(ScsType::Scs16),
+            0x17 => Ok(ScsType::Scs17),
+            0x18 => Ok(ScsType::Scs18),
+            _ => Err(Refusal::BadSecurityBlock(b)),
         }
     }
 
@@ -78,16 +73,10 @@ impl ScsType {
 }
 
 // A block that was read: its type, and how many bytes of data follow its first two.
-#[derive(Clone, Copy)]
+#[derive(Clone, Copy, PartialEq, Eq)]
 pub struct Scb {
     pub ty: ScsType,
     pub data_len: u8,
-}
-
-#[derive(Clone, Copy)]
-pub enum ScbAnswer {
-    Good(Scb),
-    Refused(Refusal),
 }
 
 impl Scb {
@@ -99,31 +88,29 @@ impl Scb {
     }
 
     // Reads the block at the start of buf: the part of a frame from its byte 5 on.
-    pub fn parse(buf: &[u8]) -> ScbAnswer
+    #[tactic(auto, unfolding(crate::specs::Block::scb_of, laws::specs::Answer::refuse_if, laws::specs::Answer::and_then))]
+    pub fn parse(buf: &[u8]) -> Result<Self, Refusal>
         ensures { scb_answer result ≡ scb_of buf.now }
     {
         if buf.len() < SCB_HEADER_LEN {
-            return ScbAnswer::Refused(Refusal::Truncated {
+            return Err(Refusal::Truncated {
                 have: buf.len(),
                 need: SCB_HEADER_LEN,
             });
         }
         let len = buf[0] as usize;
         if len < SCB_HEADER_LEN {
-            return ScbAnswer::Refused(Refusal::BadSecurityBlockLength(buf[1]));
+            return Err(Refusal::BadSecurityBlockLength(buf[1]));
         }
         if buf.len() < len {
-            return ScbAnswer::Refused(Refusal::Truncated {
+            return Err(Refusal::Truncated {
                 have: buf.len(),
                 need: len,
             });
         }
-        match ScsType::from_byte(buf[1]) {
-            ScsAnswer::Good(ty) => ScbAnswer::Good(Scb {
-                ty,
-                data_len: (len - SCB_HEADER_LEN) as u8,
-            }),
-            ScsAnswer::Refused(e) => ScbAnswer::Refused(e),
-        }
+        Ok(Self {
+            ty: ScsType::from_byte(buf[1])?,
+            data_len: (len - SCB_HEADER_LEN) as u8,
+        })
     }
 }

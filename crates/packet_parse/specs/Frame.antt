@@ -120,16 +120,16 @@ abbrev pub head_fields : FrameHead → Head
 head_fields h = record { addr = h.addr.0; len = h.len; ctrl = control h.ctrl }
 
 abbrev pub head_answer : HeadAnswer → Answer Head
-head_answer (HeadAnswer.Good h) = given (head_fields h)
-head_answer (HeadAnswer.Refused e) = refusal_of e
+head_answer (Ok h) = given (head_fields h)
+head_answer (Err e) = refusal_of e
 
 abbrev pub block_place : BlockPart → BlockAt
-block_place BlockPart.Absent = no_block
+block_place None = no_block
 block_place (BlockPart.At ty start len) = block_at (type_of ty) start len
 
 abbrev pub mac_place : MacPart → MacAt
-mac_place MacPart.Absent = no_mac
-mac_place (MacPart.At at) = mac_from at
+mac_place None = no_mac
+mac_place (Some at) = mac_from at
 
 abbrev pub fields : ParsedPacket → Fields
 fields p =
@@ -146,5 +146,5 @@ fields p =
     }
 
 abbrev pub parsed : Parsed → Answer Fields
-parsed (Parsed.Good p) = given (fields p)
-parsed (Parsed.Refused e) = refusal_of e
+parsed (Ok p) = given (fields p)
+parsed (Err e) = refusal_of e

@@ -32,5 +32,5 @@ trailer_of f false = refuse_if (not (sum_got f == sum_want f)) 8 (sum_got f ∷ 
 -- ---- the code's answer, as the paper has it
 
 abbrev pub trailer_answer : TrailerAnswer → Answer Tail
-trailer_answer (TrailerAnswer.Good t) = given (tail t)
-trailer_answer (TrailerAnswer.Refused e) = refusal_of e
+trailer_answer (Ok t) = given (tail t)
+trailer_answer (Err e) = refusal_of e

@@ -75,9 +75,9 @@ fn mac_part(mac: bool, at: usize) -> MacPart
     ensures { mac_place result ≡ mac_at_of mac at }
 {
     if mac {
-        MacPart::At(at)
+        Some(at)
     } else {
-        MacPart::Absent
+        None
     }
 }
 
@@ -86,15 +86,15 @@ pub fn mac_start(mac: MacPart) -> usize
     ensures { result ≡ mac_start_of (mac_place mac) }
 {
     match mac {
-        MacPart::Absent => 0,
-        MacPart::At(at) => at,
+        None => 0,
+        Some(at) => at,
     }
 }
 
 fn bad_length(n: usize) -> Parsed
     ensures { parsed result ≡ refused 4 (n ∷ n ∷ []) }
 {
-    Parsed::Refused(Refusal::BadLength {
+    Err(Refusal::BadLength {
         declared: n,
         actual: n,
     })
@@ -122,7 +122,7 @@ fn parse_rest(
         return bad_length(n);
     }
     match check(f, ctrl.crc) {
-        TrailerAnswer::Good(trailer) => Parsed::Good(ParsedPacket {
+        Ok(trailer) => Ok(ParsedPacket {
             addr,
             ctrl,
             block,
@@ -133,7 +133,7 @@ fn parse_rest(
             mac: mac_part(mac, n - (m + t)),
             trailer,
         }),
-        TrailerAnswer::Refused(e) => Parsed::Refused(e),
+        Err(e) => Err(e),
     }
 }
 
@@ -147,7 +147,7 @@ fn parse_frame(f: &[u8], addr: Address, ctrl: ControlByte) -> Parsed
     }
     if ctrl.block {
         match Scb::parse(&f[HEADER_LEN..]) {
-            ScbAnswer::Good(b) => {
+            Ok(b) => {
                 let len = b.data_len as usize;
                 let ty = b.ty;
                 let block = BlockPart::At {
@@ -157,10 +157,10 @@ fn parse_frame(f: &[u8], addr: Address, ctrl: ControlByte) -> Parsed
                 };
                 parse_rest(f, addr, ctrl, block, SCB_DATA_AT + len, ty.has_mac())
             }
-            ScbAnswer::Refused(e) => Parsed::Refused(e),
+            Err(e) => Err(e),
         }
     } else {
-        parse_rest(f, addr, ctrl, BlockPart::Absent, HEADER_LEN, false)
+        parse_rest(f, addr, ctrl, None, HEADER_LEN, false)
     }
 }
 
@@ -171,21 +171,21 @@ pub fn head(buf: &[u8]) -> HeadAnswer
     ensures { head_answer result ≡ head_of buf.now }
 {
     if buf.len() < HEADER_LEN {
-        return HeadAnswer::Refused(Refusal::Truncated {
+        return Err(Refusal::Truncated {
             have: buf.len(),
             need: HEADER_LEN,
         });
     }
     if buf[0] != SOM {
-        return HeadAnswer::Refused(Refusal::BadSom(buf[0]));
+        return Err(Refusal::BadSom(buf[0]));
     }
     match ControlByte::decode(buf[4]) {
-        ControlAnswer::Good(ctrl) => HeadAnswer::Good(FrameHead {
+        Ok(ctrl) => Ok(FrameHead {
             addr: Address::from_raw(buf[1]),
             len: word(buf[2], buf[3]) as usize,
             ctrl,
         }),
-        ControlAnswer::Refused(e) => HeadAnswer::Refused(e),
+        Err(e) => Err(e),
     }
 }
 
@@ -194,10 +194,10 @@ pub fn parse(buf: &[u8]) -> Parsed
     ensures { parsed result ≡ parse_of buf.now }
 {
     match head(buf) {
-        HeadAnswer::Good(h) => {
+        Ok(h) => {
             let len = h.len;
             if buf.len() < len {
-                Parsed::Refused(Refusal::Truncated {
+                Err(Refusal::Truncated {
                     have: buf.len(),
                     need: len,
                 })
@@ -205,6 +205,6 @@ pub fn parse(buf: &[u8]) -> Parsed
                 parse_frame(&buf[..len], h.addr, h.ctrl)
             }
         }
-        HeadAnswer::Refused(e) => Parsed::Refused(e),
+        Err(e) => Err(e),
     }
 }

@@ -21,9 +21,9 @@ fn check_crc(f: &[u8]) -> TrailerAnswer
     let got = word(f[n - CRC_LEN], f[n - 1]);
     let want = packet_sums::crc16(&f[..n - CRC_LEN]);
     if got == want {
-        TrailerAnswer::Good(Trailer::Crc(got))
+        Ok(Trailer::Crc(got))
     } else {
-        TrailerAnswer::Refused(Refusal::BadCrc { got, want })
+        Err(Refusal::BadCrc { got, want })
     }
 }
 
@@ -36,9 +36,9 @@ fn check_sum(f: &[u8]) -> TrailerAnswer
     // the whole frame is summed and its last byte taken out again: faster than a slice that is one shorter
     let want = std::num::wrapping_add_u8(got, packet_sums::checksum8(f));
     if got == want {
-        TrailerAnswer::Good(Trailer::Checksum(got))
+        Ok(Trailer::Checksum(got))
     } else {
-        TrailerAnswer::Refused(Refusal::BadChecksum { got, want })
+        Err(Refusal::BadChecksum { got, want })
     }
 }
 

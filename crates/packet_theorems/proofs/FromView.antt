@@ -41,10 +41,10 @@ read_as_lem (refused n vs) h = absurd (given-refused (sym h))
 
 same_block : (B : BlockAt) (f : List ℕ) (b : BuildBlock) (l : List ℕ) → TypeKnown B → type_in B ≡ type_asked b → block_data_in (frame_block_from B f) ≡ block_data_asked b l
     → frame_block_from B f ≡ scb_given b l
-same_block no_block f BuildBlock.Absent l k t d = refl
-same_block no_block f (BuildBlock.Of ty) l k t d = absurd (omega (arith, (type_range ty).0))
-same_block (block_at ty start len) f BuildBlock.Absent l k t d = absurd (omega arith)
-same_block (block_at ty start len) f (BuildBlock.Of a) l k t d = ap₂ scb t d
+same_block no_block f None l k t d = refl
+same_block no_block f (Some ty) l k t d = absurd (omega (arith, (type_range ty).0))
+same_block (block_at ty start len) f None l k t d = absurd (omega arith)
+same_block (block_at ty start len) f (Some a) l k t d = ap₂ scb t d
 
 -- Whatever is given to `build`, if the view of s shows it, builds the first n bytes of s, in any buffer that has the room.
 pub shown_builds : (s : List ℕ) (w : PacketBuilder) (l d : List ℕ) (m : GivenMac) (n : ℕ) → Bytes s → ShowsPacket s w l d m n → (have : ℕ) → n ≤ have
@@ -74,25 +74,25 @@ shown_builds s w l d m n b h have room =
 -- ---- from a view
 
 kind_asked : (k : BlockKind) → kind_of k ≡ type_asked (block_shown k)
-kind_asked BlockKind.Absent = refl
-kind_asked (BlockKind.Present ty) = refl
+kind_asked None = refl
+kind_asked (Some ty) = refl
 
 no_block_data : (B : BlockAt) (s : List ℕ) → TypeKnown B → type_in B ≡ 0 → take (block_in B).len (drop (block_in B).at s) ≡ []
 no_block_data no_block s k e = refl
 no_block_data (block_at ty start len) s k e = absurd (omega arith)
 
 shown_data : (k : BlockKind) (l : List ℕ) → (kind_of k ≡ 0 → l ≡ []) → l ≡ block_data_asked (block_shown k) l
-shown_data BlockKind.Absent l h = h refl
-shown_data (BlockKind.Present ty) l h = refl
+shown_data None l h = h refl
+shown_data (Some ty) l h = refl
 
 mac_of_length : (m : MacAt) (l : List ℕ) → length l ≡ (mac_in m).len → l ≡ mac_bytes (mac_shown l)
 mac_of_length no_mac l e = let z : [] ≡ l = nothing l e in sym z ∙ ap (λ (x : List ℕ). mac_bytes (mac_shown x)) z
 mac_of_length (mac_from at) l e =
     sym (all_listed l 4 e)
-    ∙ ap (λ (t : Bool). mac_bytes (cond t (GivenMac.Is (get_or l 0 0) (get_or l 1 0) (get_or l 2 0) (get_or l 3 0)) GivenMac.Absent)) (sym (eq-eqb (length l) 4 e))
+    ∙ ap (λ (t : Bool). mac_bytes (cond t (GivenMac.Is (get_or l 0 0) (get_or l 1 0) (get_or l 2 0) (get_or l 3 0)) None)) (sym (eq-eqb (length l) 4 e))
 
 -- v is the view of s that `PacketView::parse` gives, and it tells no refusal
-module _ (s : Bor (List ℕ)) (v : PacketView) (e : viewed v ≡ (s, shown_of s.now)) (done : v.outcome ≡ Outcome.Done) where
+module _ (s : Bor (List ℕ)) (v : PacketView) (e : viewed v ≡ (s, shown_of s.now)) (done : v.outcome ≡ (Ok tt)) where
   abbrev told : (viewed v).1 ≡ shown_of s.now
   told = ap (λ (y : Bor (List ℕ) × Shown). y.1) e
 

@@ -21,16 +21,16 @@ use Rattle.packet_theorems.proofs.ReadBack.{built_reads_back}
 use Rattle.packet_theorems.proofs.Seen.{block_data_in, block-data-seen, payload-seen, mac-seen}
 
 asked_typed : (b : BuildBlock) (l : List ℕ) → Typed (scb_given b l)
-asked_typed BuildBlock.Absent l = tt
-asked_typed (BuildBlock.Of ty) l = type-taken ty
+asked_typed None l = tt
+asked_typed (Some ty) l = type-taken ty
 
 asked_type : (b : BuildBlock) (l : List ℕ) → type_in (place_of (scb_given b l)) ≡ type_asked b
-asked_type BuildBlock.Absent l = refl
-asked_type (BuildBlock.Of ty) l = refl
+asked_type None l = refl
+asked_type (Some ty) l = refl
 
 asked_data : (b : BuildBlock) (l : List ℕ) → block_data_in (scb_given b l) ≡ block_data_asked b l
-asked_data BuildBlock.Absent l = refl
-asked_data (BuildBlock.Of ty) l = refl
+asked_data None l = refl
+asked_data (Some ty) l = refl
 
 -- Bytes b that were built, with any bytes after them, are accepted, and their view shows what was given.
 pub built_shows : (w : PacketBuilder) (l d : List ℕ) (m : GivenMac) (have : ℕ) (b rest : List ℕ) → build_of (parts_given w l d m) have ≡ given b

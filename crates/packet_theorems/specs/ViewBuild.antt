@@ -22,13 +22,13 @@ shown_of s = places_of (parse_of s)
 
 -- the type of the block that `build` is asked for, as the view tells it
 abbrev pub type_asked : BuildBlock → ℕ
-type_asked BuildBlock.Absent = 0
-type_asked (BuildBlock.Of ty) = type_of ty
+type_asked None = 0
+type_asked (Some ty) = type_of ty
 
 -- the block's data, of which there is none without a block
 abbrev pub block_data_asked : BuildBlock → List ℕ → List ℕ
-block_data_asked BuildBlock.Absent l = []
-block_data_asked (BuildBlock.Of ty) l = l
+block_data_asked None l = []
+block_data_asked (Some ty) l = l
 
 -- The view of s shows a frame of n bytes, and in it what `build` is given: the packet w, block data l, data d and the MAC m.
 pub record ShowsPacket (s : List ℕ) (w : PacketBuilder) (l d : List ℕ) (m : GivenMac) (n : ℕ) : Type 0 where
@@ -45,8 +45,8 @@ pub record ShowsPacket (s : List ℕ) (w : PacketBuilder) (l d : List ℕ) (m : 
 -- ---- what `build` is given by one who has a view
 
 abbrev pub block_shown : BlockKind → BuildBlock
-block_shown BlockKind.Absent = BuildBlock.Absent
-block_shown (BlockKind.Present ty) = BuildBlock.Of ty
+block_shown None = None
+block_shown (Some ty) = Some ty
 
 -- the view's own address, control, block and code
 abbrev pub packet_shown : PacketView → PacketBuilder
@@ -54,4 +54,4 @@ packet_shown v = record { addr = v.addr; ctrl = v.ctrl; block = block_shown v.bl
 
 -- the MAC that the view shows: four bytes, or none
 abbrev pub mac_shown : List ℕ → GivenMac
-mac_shown l = cond (eqb (length l) MAC_LEN) (GivenMac.Is (get_or l 0 0) (get_or l 1 0) (get_or l 2 0) (get_or l 3 0)) GivenMac.Absent
+mac_shown l = cond (eqb (length l) MAC_LEN) (GivenMac.Is (get_or l 0 0) (get_or l 1 0) (get_or l 2 0) (get_or l 3 0)) None

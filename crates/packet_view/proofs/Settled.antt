@@ -21,9 +21,9 @@ use Rattle.packet_view.specs.declared.view.PacketView.{PacketView}
 -- ---- the block's kind
 
 abbrev kind_from : ℕ → BlockKind
-kind_from n = cond (eqb n 0) BlockKind.Absent (BlockKind.Present (type_from n))
+kind_from n = cond (eqb n 0) None (Some (type_from n))
 
-present_back : (t : ScsType) → kind_from (kind_of (BlockKind.Present t)) ≡ BlockKind.Present t
+present_back : (t : ScsType) → kind_from (kind_of (Some t)) ≡ Some t
 present_back Scs11 = refl
 present_back Scs12 = refl
 present_back Scs13 = refl
@@ -34,8 +34,8 @@ present_back Scs17 = refl
 present_back Scs18 = refl
 
 kind_back : (k : BlockKind) → kind_from (kind_of k) ≡ k
-kind_back BlockKind.Absent = refl
-kind_back (BlockKind.Present t) = present_back t
+kind_back None = refl
+kind_back (Some t) = present_back t
 
 -- ---- the places
 

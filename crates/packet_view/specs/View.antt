@@ -111,8 +111,8 @@ frame_mac_seen s = stretch_in s (start_at (λ F. mac_in F.mac) (parse_of s.now))
 -- ---- the code's kinds, as the paper has them
 
 abbrev pub kind_of : BlockKind → ℕ
-kind_of BlockKind.Absent = 0
-kind_of (BlockKind.Present ty) = type_of ty
+kind_of None = 0
+kind_of (Some ty) = type_of ty
 
 abbrev pub places_told : Places → Shown
 places_told p =

@@ -43,12 +43,12 @@ fn block_kind(b: BlockPart) -> BlockKind
     ensures { kind_of result ≡ type_in (block_place b) }
 {
     match b {
-        BlockPart::Absent => BlockKind::Absent,
+        None => None,
         BlockPart::At {
             ty,
             start: _,
             len: _,
-        } => BlockKind::Present(ty),
+        } => Some(ty),
     }
 }
 
@@ -56,7 +56,7 @@ fn block_span(b: BlockPart) -> Span
     ensures { (result.at ≡ (block_in (block_place b)).at) × (result.len ≡ (block_in (block_place b)).len) }
 {
     match b {
-        BlockPart::Absent => Span { at: 0, len: 0 },
+        None => Span { at: 0, len: 0 },
         BlockPart::At { ty: _, start, len } => Span { at: start, len },
     }
 }
@@ -65,8 +65,8 @@ fn mac_span(m: MacPart) -> Span
     ensures { (result.at ≡ (mac_in (mac_place m)).at) × (result.len ≡ (mac_in (mac_place m)).len) }
 {
     match m {
-        MacPart::Absent => Span { at: 0, len: 0 },
-        MacPart::At(at) => Span { at, len: MAC_LEN },
+        None => Span { at: 0, len: 0 },
+        Some(at) => Span { at, len: MAC_LEN },
     }
 }
 
@@ -81,7 +81,7 @@ fn accepted(p: ParsedPacket) -> Places
     let block = block_span(b);
     let mac = mac_span(m);
     Places {
-        outcome: Outcome::Done,
+        outcome: Ok(()),
         addr,
         ctrl,
         block: block_kind(b),
@@ -102,10 +102,10 @@ fn refused(e: Refusal) -> Places
     ensures { places_told result ≡ places_of (refusal_of e) }
 {
     Places {
-        outcome: Outcome::Refused(e),
+        outcome: Err(e),
         addr: Address::from_raw(0),
         ctrl: ControlByte::new(Sqn::ZERO, false, false),
-        block: BlockKind::Absent,
+        block: None,
         code: 0,
         trailer: Trailer::Checksum(0),
         len: 0,
@@ -123,7 +123,7 @@ pub fn places_in(buf: &[u8]) -> Places
     ensures { places_told result ≡ places_of (parse_of buf.now) }
 {
     match parse(buf) {
-        Parsed::Good(p) => accepted(p),
-        Parsed::Refused(e) => refused(e),
+        Ok(p) => accepted(p),
+        Err(e) => refused(e),
     }
 }

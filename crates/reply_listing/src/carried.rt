@@ -22,7 +22,7 @@ pub(crate) fn reply_in(p: ParsedPacket, payload: &[u8]) -> Reply
     }
     let mac = p.mac;
     match mac {
-        MacPart::Absent => Reply::Clear(body_read::read(p.code, payload)),
-        MacPart::At(_) => Reply::Sealed,
+        None => Reply::Clear(body_read::read(p.code, payload)),
+        Some(_) => Reply::Sealed,
     }
 }

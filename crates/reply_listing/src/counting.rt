@@ -38,8 +38,8 @@ pub(crate) fn counted(t: Tally, len: usize, reply: Reply) -> Tally
         Reply::NoReply => more(t, len, 0, 0, 0),
         Reply::Sealed => more(t, len, 0, 0, 1),
         Reply::Clear(answer) => match answer {
-            ReadAnswer::Good(_) => more(t, len, 1, 0, 0),
-            ReadAnswer::Refused(_) => more(t, len, 1, 1, 0),
+            Ok(_) => more(t, len, 1, 0, 0),
+            Err(_) => more(t, len, 1, 1, 0),
         },
     }
 }

@@ -27,13 +27,13 @@ pub fn list(rt: &HostRuntime, capture: &[u8]) -> Tally
     while t.bytes < capture.len() {
         let at = t.bytes;
         match listing::frame_at(rt, b"replies", ok, capture, at) {
-            Parsed::Good(p) => {
+            Ok(p) => {
                 let payload = slices::part(capture, at + p.data_start, p.data_len);
                 let reply = reply_in(p, payload);
                 ok = put_reply(&to, ok, at, p, payload, reply);
                 t = counted(t, p.len, reply);
             }
-            Parsed::Refused(_) => return t,
+            Err(_) => return t,
         }
     }
     t

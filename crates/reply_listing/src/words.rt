@@ -7,12 +7,12 @@ use packet_parse::ParsedPacket;
 
 fn put_triple(to: &Writer, ok: bool, triple: TripleAnswer) -> bool {
     match triple {
-        TripleAnswer::Of(t) => {
+        Some(t) => {
             let function = put_number(to, ok, b" function ", t.function as u64);
             let compliance = put_number(to, function, b" compliance ", t.compliance as u64);
             put_number(to, compliance, b" number ", t.number as u64)
         }
-        TripleAnswer::NoTriple => ok,
+        None => ok,
     }
 }
 
@@ -47,8 +47,8 @@ fn put_pdid(
 // The badge as one number, where its bits are one.
 fn put_badge(to: &Writer, ok: bool, badge: BadgeAnswer) -> bool {
     match badge {
-        BadgeAnswer::Number(n) => put_number(to, ok, b" number ", n),
-        BadgeAnswer::NoNumber => ok,
+        Some(n) => put_number(to, ok, b" number ", n),
+        None => ok,
     }
 }
 
@@ -133,8 +133,8 @@ fn put_line(to: &Writer, at: usize, p: ParsedPacket, payload: &[u8], answer: Rea
     let addressed = put_number(to, placed, b" ", p.addr.as_byte() as u64);
     let named = put_name(to, addressed, p.code);
     let said = match answer {
-        ReadAnswer::Good(body) => put_body(to, named, body, payload),
-        ReadAnswer::Refused(e) => put_number(to, named, b" refused ", e.number() as u64),
+        Ok(body) => put_body(to, named, body, payload),
+        Err(e) => put_number(to, named, b" refused ", e.number() as u64),
     };
     put(to, said, b"\n")
 }

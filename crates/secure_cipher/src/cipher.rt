@@ -64,7 +64,7 @@ pub fn encrypt_data(s_enc: [u8; 16], iv: [u8; 16], data: &[u8], out: &mut [u8]) 
     let need = data.len() / 16 * 16 + 16;
     if out.len() < need {
         return Ciphered {
-            answer: LengthAnswer::Refused(Refusal::NoRoom {
+            answer: Err(Refusal::NoRoom {
                 need,
                 have: out.len(),
             }),
@@ -73,7 +73,7 @@ pub fn encrypt_data(s_enc: [u8; 16], iv: [u8; 16], data: &[u8], out: &mut [u8]) 
     }
     let calls = encrypt_blocks(s_enc, iv, data, out);
     Ciphered {
-        answer: LengthAnswer::Of(need),
+        answer: Ok(need),
         calls,
     }
 }
@@ -104,7 +104,7 @@ fn bad_padding(out: &mut [u8], n: usize, calls: usize) -> Ciphered
 {
     slices::zero(out, 0, n);
     Ciphered {
-        answer: LengthAnswer::Refused(Refusal::BadPadding),
+        answer: Err(Refusal::BadPadding),
         calls,
     }
 }
@@ -116,7 +116,7 @@ pub fn decrypt_data(s_enc: [u8; 16], iv: [u8; 16], ct: &[u8], out: &mut [u8]) ->
     let n = ct.len();
     if out.len() < n {
         return Ciphered {
-            answer: LengthAnswer::Refused(Refusal::NoRoom {
+            answer: Err(Refusal::NoRoom {
                 need: n,
                 have: out.len(),
             }),
@@ -131,14 +131,14 @@ pub fn decrypt_data(s_enc: [u8; 16], iv: [u8; 16], ct: &[u8], out: &mut [u8]) ->
     }
     let calls = decrypt_blocks(s_enc, iv, ct, out);
     match pad::unpad_data(&out[..n]) {
-        LengthAnswer::Of(len) => {
+        Ok(len) => {
             // what follows the 80 was found to be zero
             out[len] = 0;
             Ciphered {
-                answer: LengthAnswer::Of(len),
+                answer: Ok(len),
                 calls,
             }
         }
-        LengthAnswer::Refused(_) => bad_padding(out, n, calls),
+        Err(_) => bad_padding(out, n, calls),
     }
 }

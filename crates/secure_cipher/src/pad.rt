@@ -16,13 +16,13 @@ pub fn pad_mac(data: &[u8], out: &mut [u8]) -> LengthAnswer
         return pad_data(data, out);
     }
     if out.len() < n {
-        return LengthAnswer::Refused(Refusal::NoRoom {
+        return Err(Refusal::NoRoom {
             need: n,
             have: out.len(),
         });
     }
     slices::copy(out, 0, data);
-    LengthAnswer::Of(n)
+    Ok(n)
 }
 
 // For encrypted data: always at least the 80.
@@ -33,7 +33,7 @@ pub fn pad_data(data: &[u8], out: &mut [u8]) -> LengthAnswer
     let n = data.len();
     let need = n / 16 * 16 + 16;
     if out.len() < need {
-        return LengthAnswer::Refused(Refusal::NoRoom {
+        return Err(Refusal::NoRoom {
             need,
             have: out.len(),
         });
@@ -41,7 +41,7 @@ pub fn pad_data(data: &[u8], out: &mut [u8]) -> LengthAnswer
     slices::copy(out, 0, data);
     out[n] = 0x80;
     slices::zero(out, n + 1, need - (n + 1));
-    LengthAnswer::Of(need)
+    Ok(need)
 }
 
 // How many bytes stand before the padding.
@@ -53,14 +53,14 @@ pub fn unpad_data(buf: &[u8]) -> LengthAnswer
         let j = i - 1;
         let b = buf[j];
         if b == 0x80 {
-            return LengthAnswer::Of(j);
+            return Ok(j);
         }
         if b != 0 {
-            return LengthAnswer::Refused(Refusal::BadPadding);
+            return Err(Refusal::BadPadding);
         }
         i = j;
     }
-    LengthAnswer::Refused(Refusal::BadPadding)
+    Err(Refusal::BadPadding)
 }
 
 // The last block of s padded as data: what is left after the whole blocks, 80, zeros.

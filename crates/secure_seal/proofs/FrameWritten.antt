@@ -95,7 +95,7 @@ module _ (s : Session) (q : Asked) (o o₁ y : List ℕ) (t total : ℕ) (et : t
     counted-mac : n ≡ (session_mac s v (body_with q (sealed_data k v q))).steps
     counted-mac = en ∙ ap mac_calls (sym length-body) ∙ mac-counted k.s_mac1 k.s_mac2 v (body_with q (sealed_data k v q))
 
-    pub frame-put : Put s q o o₃ (record { answer = LengthAnswer.Of total; calls = h + n; session = s₂ })
+    pub frame-put : Put s q o o₃ (record { answer = Ok total; calls = h + n; session = s₂ })
     unfolding sealed_frame
     frame-put =
         let e : f ≡ (session_mac s v (body_with q (sealed_data k v q))).full = em ∙ ap (λ (l : List ℕ). (session_mac s v l).full) body-seen in

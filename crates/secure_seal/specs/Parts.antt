@@ -20,4 +20,4 @@ pub record Put (s : Session) (q : Asked) (before after : List ℕ) (r : Sealed) 
 
 -- a refusal: no calls, the session as it was
 abbrev pub refused_with : Session → Refusal → Sealed
-refused_with s e = record { answer = LengthAnswer.Refused e; calls = 0; session = s }
+refused_with s e = record { answer = Err e; calls = 0; session = s }

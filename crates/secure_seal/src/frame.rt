@@ -88,18 +88,18 @@ fn test(sqn: Sqn, total: usize, have: usize) -> LengthAnswer
 {
     let n = sqn.value();
     if MAX_SQN < n {
-        return LengthAnswer::Refused(Refusal::BadSqn(n));
+        return Err(Refusal::BadSqn(n));
     }
     if MAX_LEN < total {
-        return LengthAnswer::Refused(Refusal::BufferOverflow {
+        return Err(Refusal::BufferOverflow {
             need: total,
             have: MAX_LEN,
         });
     }
     if have < total {
-        return LengthAnswer::Refused(Refusal::NoRoom { need: total, have });
+        return Err(Refusal::NoRoom { need: total, have });
     }
-    LengthAnswer::Of(total)
+    Ok(total)
 }
 
 // The eight bytes before the data, in a frame of total bytes: the block has no data of its own, and the trailer is a CRC.
@@ -172,7 +172,7 @@ fn put_frame(
     put_end(full, end, out);
     let next = made.session;
     Sealed {
-        answer: LengthAnswer::Of(total),
+        answer: Ok(total),
         calls: hidden + secure_cipher::mac_calls(end),
         session: next,
     }
@@ -183,7 +183,7 @@ fn refused(session: Session, e: Refusal) -> Sealed
     ensures { result ≡ refused_with session e }
 {
     Sealed {
-        answer: LengthAnswer::Refused(e),
+        answer: Err(e),
         calls: 0,
         session,
     }
@@ -206,8 +206,8 @@ pub fn seal(
         return refused(session, Refusal::WrongState);
     }
     match test(sqn, total_len(encrypt, data), out.len()) {
-        LengthAnswer::Refused(e) => refused(session, e),
-        LengthAnswer::Of(total) => put_frame(
+        Err(e) => refused(session, e),
+        Ok(total) => put_frame(
             session, total, addr, sqn, direction, encrypt, code, data, out,
         ),
     }

@@ -25,12 +25,12 @@ use Rattle.secure_session.specs.declared.session.SteppedBlock.{SteppedBlock}
 abbrev verified : Bool → Session → Session → Step (Unit {0})
 verified b s t = cond b (record { answer = given tt; session = t }) (record { answer = refused 15 []; session = s })
 
-right_or : (b : Bool) (s t : Session) (r : Stepped) → stepped r ≡ verified b s t → r.outcome ≡ Outcome.Done → (b ≡ true) × (r.session ≡ t)
+right_or : (b : Bool) (s t : Session) (r : Stepped) → stepped r ≡ verified b s t → r.outcome ≡ (Ok tt) → (b ≡ true) × (r.session ≡ t)
 right_or true s t r e h = (refl, ap (λ (x : Step (Unit {0})). x.session) e)
 right_or false s t r e h =
     absurd (given-refused (ap (λ (o : Outcome). outcome_answer {A = Unit {0}} o tt) (sym h) ∙ ap (λ (x : Step (Unit {0})). x.answer) e))
 
-wrong_or : (b : Bool) (s t : Session) (r : Stepped) (x : Refusal) → stepped r ≡ verified b s t → r.outcome ≡ Outcome.Refused x
+wrong_or : (b : Bool) (s t : Session) (r : Stepped) (x : Refusal) → stepped r ≡ verified b s t → r.outcome ≡ Err x
     → (b ≡ false) × (number_of x ≡ 15) × (values_of x ≡ []) × (r.session ≡ s)
 wrong_or true s t r x e h =
     absurd (given-refused (sym (ap (λ (y : Step (Unit {0})). y.answer) e) ∙ ap (λ (o : Outcome). outcome_answer {A = Unit {0}} o tt) h))
@@ -66,10 +66,10 @@ module _ (s : Session) (secure : is_secure s.state ≡ true) where
     ap (λ (x : Step (List ℕ)). x.session) (e ∙ secure-mac l),
   )
 
-  pub verify-right : (l w : List ℕ) (r : Stepped) → stepped r ≡ verify_of s l w → r.outcome ≡ Outcome.Done
+  pub verify-right : (l w : List ℕ) (r : Stepped) → stepped r ≡ verify_of s l w → r.outcome ≡ (Ok tt)
       → let m = (session_mac s (recv_from s) l).full in (eql (take 4 m) w ≡ true) × (r.session ≡ received s m)
   verify-right l w r e h = right_or _ s _ r (e ∙ secure-verify l w) h
 
-  pub verify-wrong-mac : (l w : List ℕ) (r : Stepped) (x : Refusal) → stepped r ≡ verify_of s l w → r.outcome ≡ Outcome.Refused x
+  pub verify-wrong-mac : (l w : List ℕ) (r : Stepped) (x : Refusal) → stepped r ≡ verify_of s l w → r.outcome ≡ Err x
       → (eql (take 4 (session_mac s (recv_from s) l).full) w ≡ false) × (number_of x ≡ 15) × (values_of x ≡ []) × (r.session ≡ s)
   verify-wrong-mac l w r x e h = wrong_or _ s _ r x (e ∙ secure-verify l w) h

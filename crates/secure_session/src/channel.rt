@@ -61,13 +61,13 @@ impl Session {
             let full = self.full_mac(start, bytes);
             let next = self.sent(full);
             SteppedBlock {
-                outcome: Outcome::Done,
+                outcome: Ok(()),
                 block: full,
                 session: next,
             }
         } else {
             SteppedBlock {
-                outcome: Outcome::Refused(Refusal::WrongState),
+                outcome: Err(Refusal::WrongState),
                 block: [0; 16],
                 session: self,
             }
@@ -80,7 +80,7 @@ impl Session {
     {
         if !self.is_secure() {
             return Stepped {
-                outcome: Outcome::Refused(Refusal::WrongState),
+                outcome: Err(Refusal::WrongState),
                 session: self,
             };
         }
@@ -91,12 +91,12 @@ impl Session {
         if begins_with(m, wire_mac) {
             let next = self.received(m);
             Stepped {
-                outcome: Outcome::Done,
+                outcome: Ok(()),
                 session: next,
             }
         } else {
             Stepped {
-                outcome: Outcome::Refused(Refusal::BadCryptogram),
+                outcome: Err(Refusal::BadCryptogram),
                 session: self,
             }
         }
@@ -110,13 +110,13 @@ impl Session {
         if self.is_secure() {
             let keys = self.keys;
             KeysAnswer {
-                outcome: Outcome::Done,
+                outcome: Ok(()),
                 keys,
             }
         } else {
             let none = session::no_keys();
             KeysAnswer {
-                outcome: Outcome::Refused(Refusal::WrongState),
+                outcome: Err(Refusal::WrongState),
                 keys: none,
             }
         }
@@ -130,12 +130,12 @@ impl Session {
         if self.is_secure() {
             let start = self.send_from();
             BlockAnswer {
-                outcome: Outcome::Done,
+                outcome: Ok(()),
                 block: start,
             }
         } else {
             BlockAnswer {
-                outcome: Outcome::Refused(Refusal::WrongState),
+                outcome: Err(Refusal::WrongState),
                 block: [0; 16],
             }
         }
@@ -152,7 +152,7 @@ impl Session {
             secure_cipher::encrypt_data(s_enc, iv, data, out)
         } else {
             Ciphered {
-                answer: LengthAnswer::Refused(Refusal::WrongState),
+                answer: Err(Refusal::WrongState),
                 calls: 0,
             }
         }
@@ -169,7 +169,7 @@ impl Session {
             secure_cipher::decrypt_data(s_enc, iv, ct, out)
         } else {
             Ciphered {
-                answer: LengthAnswer::Refused(Refusal::WrongState),
+                answer: Err(Refusal::WrongState),
                 calls: 0,
             }
         }

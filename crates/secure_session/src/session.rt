@@ -231,12 +231,12 @@ impl Session {
             let keys = self.keys;
             let next = self.moved(State::Challenged, rnd_a, rnd_b, cuid, keys);
             Stepped {
-                outcome: Outcome::Done,
+                outcome: Ok(()),
                 session: next,
             }
         } else {
             Stepped {
-                outcome: Outcome::Refused(Refusal::WrongState),
+                outcome: Err(Refusal::WrongState),
                 session: self,
             }
         }
@@ -259,19 +259,19 @@ impl Session {
             if secure_keys::same(&want, &client_cryptogram) {
                 let next = self.moved(State::Cryptogrammed, rnd_a, rnd_b, cuid, keys);
                 Stepped {
-                    outcome: Outcome::Done,
+                    outcome: Ok(()),
                     session: next,
                 }
             } else {
                 let back = self.reset();
                 Stepped {
-                    outcome: Outcome::Refused(Refusal::BadCryptogram),
+                    outcome: Err(Refusal::BadCryptogram),
                     session: back,
                 }
             }
         } else {
             Stepped {
-                outcome: Outcome::Refused(Refusal::WrongState),
+                outcome: Err(Refusal::WrongState),
                 session: self,
             }
         }
@@ -284,12 +284,12 @@ impl Session {
         if self.is_at(End::Controller, State::Cryptogrammed) {
             let server = self.server_for();
             BlockAnswer {
-                outcome: Outcome::Done,
+                outcome: Ok(()),
                 block: server,
             }
         } else {
             BlockAnswer {
-                outcome: Outcome::Refused(Refusal::WrongState),
+                outcome: Err(Refusal::WrongState),
                 block: [0; 16],
             }
         }
@@ -302,12 +302,12 @@ impl Session {
         if self.is_at(End::Controller, State::Cryptogrammed) {
             let first = self.first_for(self.server_for());
             BlockAnswer {
-                outcome: Outcome::Done,
+                outcome: Ok(()),
                 block: first,
             }
         } else {
             BlockAnswer {
-                outcome: Outcome::Refused(Refusal::WrongState),
+                outcome: Err(Refusal::WrongState),
                 block: [0; 16],
             }
         }
@@ -321,19 +321,19 @@ impl Session {
             if secure_keys::same(&first, &rmac_i) {
                 let next = self.secured(first);
                 Stepped {
-                    outcome: Outcome::Done,
+                    outcome: Ok(()),
                     session: next,
                 }
             } else {
                 let back = self.reset();
                 Stepped {
-                    outcome: Outcome::Refused(Refusal::BadCryptogram),
+                    outcome: Err(Refusal::BadCryptogram),
                     session: back,
                 }
             }
         } else {
             Stepped {
-                outcome: Outcome::Refused(Refusal::WrongState),
+                outcome: Err(Refusal::WrongState),
                 session: self,
             }
         }
@@ -353,13 +353,13 @@ impl Session {
             let client = secure_keys::client_cryptogram(s_enc, rnd_a, rnd_b);
             let next = self.moved(State::Challenged, rnd_a, rnd_b, cuid, keys);
             SteppedBlock {
-                outcome: Outcome::Done,
+                outcome: Ok(()),
                 block: client,
                 session: next,
             }
         } else {
             SteppedBlock {
-                outcome: Outcome::Refused(Refusal::WrongState),
+                outcome: Err(Refusal::WrongState),
                 block: [0; 16],
                 session: self,
             }
@@ -376,21 +376,21 @@ impl Session {
                 let first = self.first_for(want);
                 let next = self.secured(first);
                 SteppedBlock {
-                    outcome: Outcome::Done,
+                    outcome: Ok(()),
                     block: first,
                     session: next,
                 }
             } else {
                 let back = self.reset();
                 SteppedBlock {
-                    outcome: Outcome::Refused(Refusal::BadCryptogram),
+                    outcome: Err(Refusal::BadCryptogram),
                     block: [0; 16],
                     session: back,
                 }
             }
         } else {
             SteppedBlock {
-                outcome: Outcome::Refused(Refusal::WrongState),
+                outcome: Err(Refusal::WrongState),
                 block: [0; 16],
                 session: self,
             }

@@ -68,11 +68,11 @@ four_listed f at h =
 
 -- what `verify` came to
 module _ (s : Session) (secure : is_secure s.state ≡ true) (f : List ℕ) (at : ℕ) (r : Stepped) (e : stepped r ≡ verify_of s (take at f) (take 4 (drop at f))) where
-  pub check-passed : r.outcome ≡ Outcome.Done → ((check s.keys (recv_from s) f at).right ≡ true) × (r.session ≡ received s (check s.keys (recv_from s) f at).full)
+  pub check-passed : r.outcome ≡ (Ok tt) → ((check s.keys (recv_from s) f at).right ≡ true) × (r.session ≡ received s (check s.keys (recv_from s) f at).full)
   unfolding check
   check-passed h = verify-right s secure (take at f) (take 4 (drop at f)) r e h
 
-  pub check-failed : (x : Refusal) → r.outcome ≡ Outcome.Refused x → ((check s.keys (recv_from s) f at).right ≡ false) × (number_of x ≡ 15) × (values_of x ≡ []) × (r.session ≡ s)
+  pub check-failed : (x : Refusal) → r.outcome ≡ Err x → ((check s.keys (recv_from s) f at).right ≡ false) × (number_of x ≡ 15) × (values_of x ≡ []) × (r.session ≡ s)
   unfolding check
   check-failed x h = verify-wrong-mac s secure (take at f) (take 4 (drop at f)) r x e h
 

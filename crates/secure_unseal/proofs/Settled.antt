@@ -12,11 +12,11 @@ use Rattle.secure_unseal.specs.declared.frame.Unsealed.{Unsealed}
 
 abbrev place_from : Answer Place → PlaceAnswer
 place_from (given p) = PlaceAnswer.Payload p.in_work p.start p.len
-place_from (refused n vs) = PlaceAnswer.Refused (named n vs)
+place_from (refused n vs) = Err (named n vs)
 
 place_back : (r : PlaceAnswer) → place_from (place_answer r) ≡ r
 place_back (PlaceAnswer.Payload in_work start len) = refl
-place_back (PlaceAnswer.Refused e) = ap PlaceAnswer.Refused (told_back e)
+place_back (Err e) = ap Err (told_back e)
 
 pub place_settled : (r s : PlaceAnswer) → place_answer r ≡ place_answer s → r ≡ s
 place_settled = one_reading place_answer place_from place_back

@@ -8,4 +8,4 @@ use Rattle.secure_unseal.specs.declared.frame.Unsealed.{Unsealed}
 
 -- a refusal, after so many calls: the session as it was
 abbrev pub stopped : Session → Refusal → ℕ → Unsealed
-stopped s e n = record { answer = PlaceAnswer.Refused e; calls = n; session = s }
+stopped s e n = record { answer = Err e; calls = n; session = s }

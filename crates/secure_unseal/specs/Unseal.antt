@@ -112,7 +112,7 @@ unseal_of s f w = unsealed_on s (unseal_run s.state s.keys (recv_from s) f w)
 
 abbrev pub place_answer : PlaceAnswer → Answer Place
 place_answer (PlaceAnswer.Payload in_work start len) = given (record { in_work = in_work; start = start; len = len })
-place_answer (PlaceAnswer.Refused e) = refusal_of e
+place_answer (Err e) = refusal_of e
 
 abbrev pub unseal_told : Unsealed → List ℕ → UnsealDone
 unseal_told r w = record { answer = place_answer r.answer; session = r.session; work = w; steps = r.calls }

@@ -66,7 +66,7 @@ fn stopped(session: Session, e: Refusal, calls: usize) -> Unsealed
     ensures { result ≡ stopped session e calls }
 {
     Unsealed {
-        answer: PlaceAnswer::Refused(e),
+        answer: Err(e),
         calls,
         session,
     }
@@ -90,7 +90,7 @@ fn unseal_plain(session: Session, frame: &[u8], p: ParsedPacket, mac_at: usize) 
     let right = c.outcome;
     let next = c.session;
     match right {
-        Outcome::Done => Unsealed {
+        Ok(()) => Unsealed {
             answer: PlaceAnswer::Payload {
                 in_work: false,
                 start: p.data_start,
@@ -99,7 +99,7 @@ fn unseal_plain(session: Session, frame: &[u8], p: ParsedPacket, mac_at: usize) 
             calls,
             session: next,
         },
-        Outcome::Refused(e) => stopped(next, e, calls),
+        Err(e) => stopped(next, e, calls),
     }
 }
 
@@ -119,13 +119,13 @@ fn unseal_hidden(
     let o = open_data(session, frame, at, n, work);
     let opened = o.answer;
     match opened {
-        LengthAnswer::Of(len) => {
+        Ok(len) => {
             let calls = o.calls + secure_cipher::mac_calls(mac_at);
             let c = check(session, frame, mac_at);
             let right = c.outcome;
             let next = c.session;
             match right {
-                Outcome::Done => Unsealed {
+                Ok(()) => Unsealed {
                     answer: PlaceAnswer::Payload {
                         in_work: true,
                         start: 0,
@@ -134,14 +134,14 @@ fn unseal_hidden(
                     calls,
                     session: next,
                 },
-                Outcome::Refused(e) => {
+                Err(e) => {
                     // what was opened must not stay behind
                     wipe(work, n);
                     stopped(next, e, calls)
                 }
             }
         }
-        LengthAnswer::Refused(e) => stopped(session, e, o.calls),
+        Err(e) => stopped(session, e, o.calls),
     }
 }
 
@@ -153,7 +153,7 @@ fn unseal_parsed(session: Session, frame: &[u8], p: ParsedPacket, work: &mut [u8
     let block = p.block;
     let mac = p.mac;
     match block {
-        BlockPart::Absent => stopped(session, Refusal::NotSecure, 0),
+        None => stopped(session, Refusal::NotSecure, 0),
         BlockPart::At {
             ty,
             start: _,
@@ -181,7 +181,7 @@ pub fn unseal(session: Session, frame: &[u8], work: &mut [u8]) -> Unsealed
         return stopped(session, Refusal::WrongState, 0);
     }
     match packet_parse::parse(frame) {
-        Parsed::Good(p) => unseal_parsed(session, frame, p, work),
-        Parsed::Refused(e) => stopped(session, e, 0),
+        Ok(p) => unseal_parsed(session, frame, p, work),
+        Err(e) => stopped(session, e, 0),
     }
 }

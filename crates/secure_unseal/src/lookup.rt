@@ -30,12 +30,12 @@ fn test(size: usize, start: usize, len: usize) -> Outcome
     ensures { outcome_answer result tt ≡ place_test size start len }
 {
     if outside(size, start, len) {
-        Outcome::Refused(Refusal::Truncated {
+        Err(Refusal::Truncated {
             have: size,
             need: end_of(start, len),
         })
     } else {
-        Outcome::Done
+        Ok(())
     }
 }
 

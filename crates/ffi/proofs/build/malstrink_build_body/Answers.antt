@@ -15,7 +15,7 @@ returns-in-Good-clause-value c =
     let l = a.block.now in
     let d = a.«data».now in
     let o = a.out.now in
-    let f = sym (body_asked a.p l d (length o) (parts_given c.in-Good.w l d GivenMac.Absent) (sym (c.in-Good.ensures l d GivenMac.Absent))) in
+    let f = sym (body_asked a.p l d (length o) (parts_given c.in-Good.w l d None) (sym (c.in-Good.ensures l d None))) in
     c.length_c.ensures ∙ ap c_answer (c.build_body.ensures.result_value ∙ ap sized f)
 
 pub returns-in-Good-clause-out_after : goal.returns-in-Good-clause-out_after
@@ -24,7 +24,7 @@ returns-in-Good-clause-out_after c =
     let l = a.block.now in
     let d = a.«data».now in
     let o = a.out.now in
-    let f = sym (body_asked a.p l d (length o) (parts_given c.in-Good.w l d GivenMac.Absent) (sym (c.in-Good.ensures l d GivenMac.Absent))) in
+    let f = sym (body_asked a.p l d (length o) (parts_given c.in-Good.w l d None) (sym (c.in-Good.ensures l d None))) in
     c.build_body.ensures.out_after ∙ ap (written o) f
 
 pub returns-in-Refused-clause-value : goal.returns-in-Refused-clause-value
@@ -34,7 +34,7 @@ returns-in-Refused-clause-value c =
     let d = a.«data».now in
     let o = a.out.now in
     let r = c.in-Refused.e in
-    let f = sym (body_not_asked a.p l d (length o) (number_of r) (values_of r) (sym (c.in-Refused.ensures l d GivenMac.Absent))) in
+    let f = sym (body_not_asked a.p l d (length o) (number_of r) (values_of r) (sym (c.in-Refused.ensures l d None))) in
     c.refused.ensures ∙ ap c_answer (ap sized f)
 
 pub returns-in-Refused-clause-out_after : goal.returns-in-Refused-clause-out_after
@@ -44,5 +44,5 @@ returns-in-Refused-clause-out_after c =
     let d = a.«data».now in
     let o = a.out.now in
     let r = c.in-Refused.e in
-    let f = sym (body_not_asked a.p l d (length o) (number_of r) (values_of r) (sym (c.in-Refused.ensures l d GivenMac.Absent))) in
+    let f = sym (body_not_asked a.p l d (length o) (number_of r) (values_of r) (sym (c.in-Refused.ensures l d None))) in
     ap (written o) f

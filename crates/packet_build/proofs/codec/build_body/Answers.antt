@@ -17,7 +17,7 @@ use Rattle.packet_build.proofs.Frames.{body_given, body_refused_lem}
 use Rattle.packet_build.proofs.codec.build_body.Goals as goal
 
 pub put_body-requires : goal.put_body-requires
-put_body-requires c = let parts : FrameParts = parts_given c.args.w c.args.block.now c.args.«data».now GivenMac.Absent in
+put_body-requires c = let parts : FrameParts = parts_given c.args.w c.args.block.now c.args.«data».now None in
     let buffer : List ℕ = c.args.out.now in
     let tests : Answer ℕ = let p = parts in test_of p.ctrl (sizes_of p 4 (length (buffer))) in
     let total : ℕ = c.in-Total.total in
@@ -27,7 +27,7 @@ put_body-requires c = let parts : FrameParts = parts_given c.args.w c.args.block
     ((passed).1, f.small, omega (arith, f.most), omega (arith, f.total, f.room, bytes_n_is (parts).block))
 
 pub returns-in-Total : goal.returns-in-Total
-returns-in-Total c = let parts : FrameParts = parts_given c.args.w c.args.block.now c.args.«data».now GivenMac.Absent in
+returns-in-Total c = let parts : FrameParts = parts_given c.args.w c.args.block.now c.args.«data».now None in
     let buffer : List ℕ = c.args.out.now in
     let total : ℕ = c.in-Total.total in
     let tests : Answer ℕ = let p = parts in test_of p.ctrl (sizes_of p 4 (length (buffer))) in
@@ -38,7 +38,7 @@ returns-in-Total c = let parts : FrameParts = parts_given c.args.w c.args.block.
     let e = sym (body_given p (length o) (total) (passed).0) in record { result_value = ap given (n.ensures.value ∙ sym (body_length p.addr p.ctrl p.block p.code p.«data» (total))) ∙ ap sized e; out_after = n.ensures.out_after ∙ ap (written o) e }
 
 pub returns-in-Refused : goal.returns-in-Refused
-returns-in-Refused c = let parts : FrameParts = parts_given c.args.w c.args.block.now c.args.«data».now GivenMac.Absent in
+returns-in-Refused c = let parts : FrameParts = parts_given c.args.w c.args.block.now c.args.«data».now None in
     let buffer : List ℕ = c.args.out.now in
     let tests : Answer ℕ = let p = parts in test_of p.ctrl (sizes_of p 4 (length (buffer))) in
     let p = parts in
