@@ -1,20 +1,18 @@
 -- Reading a frame (docs/RULES.md, 3): what it holds, and the order in which it is refused.
 -- Assumes nothing.
-use Rattle.std.specs.Prelude.{ℕ, ◌+◌, ◌-◌, Bool, false, cond, not, ltb, List, [], ◌∷◌, length, take, drop, ◌==◌, nat_lt, slice_index}
+use Rattle.std.specs.Prelude.{ℕ, ◌+◌, ◌-◌, Bool, false, cond, not, ltb, List, [], ◌∷◌, length, take, drop, ◌==◌, nat_lt, slice_index, Option, Some, None, Result}
 use Rattle.laws.specs.Answer.{Answer, Answer.given, and_then, refuse_if, choose}
 use Rattle.slices.specs.Number.{low_number}
-use Rattle.refusal.specs.Paper.{refusal_of}
+use Rattle.refusal.specs.Reading.{answer}
+use Rattle.refusal.specs.declared.Refusal.{Refusal}
 use Rattle.packet_head.specs.Numbers.{SOM, HEADER_LEN, SCB_DATA_AT, CODE_LEN}
 use Rattle.packet_head.specs.Header.{Control, control, control_of}
 use Rattle.packet_head.specs.Block.{has_mac, scb_of, type_of}
 use Rattle.packet_head.specs.Trailer.{Tail, tail, trailer_len, mac_len_of}
 use Rattle.packet_parse.specs.Trailer.{trailer_of}
 use Rattle.packet_parse.specs.declared.codec.FrameHead.{FrameHead}
-use Rattle.packet_parse.specs.declared.codec.HeadAnswer.{HeadAnswer}
 use Rattle.packet_parse.specs.declared.codec.BlockPart.{BlockPart}
-use Rattle.packet_parse.specs.declared.codec.MacPart.{MacPart}
 use Rattle.packet_parse.specs.declared.codec.ParsedPacket.{ParsedPacket}
-use Rattle.packet_parse.specs.declared.codec.Parsed.{Parsed}
 
 -- ---- the first five bytes
 
@@ -119,15 +117,14 @@ parse_of s =
 abbrev pub head_fields : FrameHead → Head
 head_fields h = record { addr = h.addr.0; len = h.len; ctrl = control h.ctrl }
 
-abbrev pub head_answer : HeadAnswer → Answer Head
-head_answer (Ok h) = given (head_fields h)
-head_answer (Err e) = refusal_of e
+abbrev pub head_answer : Result FrameHead Refusal → Answer Head
+head_answer r = answer head_fields r
 
-abbrev pub block_place : BlockPart → BlockAt
+abbrev pub block_place : Option BlockPart → BlockAt
 block_place None = no_block
-block_place (BlockPart.At ty start len) = block_at (type_of ty) start len
+block_place (Some b) = block_at (type_of b.ty) b.start b.len
 
-abbrev pub mac_place : MacPart → MacAt
+abbrev pub mac_place : Option ℕ → MacAt
 mac_place None = no_mac
 mac_place (Some at) = mac_from at
 
@@ -145,6 +142,5 @@ fields p =
       len = p.len;
     }
 
-abbrev pub parsed : Parsed → Answer Fields
-parsed (Ok p) = given (fields p)
-parsed (Err e) = refusal_of e
+abbrev pub parsed : Result ParsedPacket Refusal → Answer Fields
+parsed r = answer fields r

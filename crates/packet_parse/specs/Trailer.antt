@@ -1,14 +1,15 @@
 -- The end of a frame: a checksum, or a CRC with its low byte first (docs/RULES.md, 2.5, 2.6 and 3).
 -- Assumes nothing.
-use Rattle.std.specs.Prelude.{ℕ, ◌-◌, Bool, true, false, not, List, [], ◌∷◌, length, take, ◌==◌, slice_index}
+use Rattle.std.specs.Prelude.{ℕ, ◌-◌, Bool, true, false, not, List, [], ◌∷◌, length, take, ◌==◌, slice_index, Result}
 use Rattle.laws.specs.Answer.{Answer, Answer.given, refuse_if}
 use Rattle.packet_sums.specs.Checksum.{checksum_of}
 use Rattle.packet_sums.specs.Crc.{crc_of}
 use Rattle.slices.specs.Number.{low_number}
-use Rattle.refusal.specs.Paper.{refusal_of}
+use Rattle.refusal.specs.Reading.{answer}
+use Rattle.refusal.specs.declared.Refusal.{Refusal}
 use Rattle.packet_head.specs.Numbers.{CHECKSUM_LEN, CRC_LEN}
 use Rattle.packet_head.specs.Trailer.{Tail, Tail.checksum, Tail.crc, tail}
-use Rattle.packet_parse.specs.declared.trailing.TrailerAnswer.{TrailerAnswer}
+use Rattle.packet_head.specs.declared.trailer.Trailer.{Trailer}
 
 -- what the last two bytes say, and what the bytes before them want
 abbrev pub crc_got : List ℕ → ℕ
@@ -31,6 +32,5 @@ trailer_of f false = refuse_if (not (sum_got f == sum_want f)) 8 (sum_got f ∷ 
 
 -- ---- the code's answer, as the paper has it
 
-abbrev pub trailer_answer : TrailerAnswer → Answer Tail
-trailer_answer (Ok t) = given (tail t)
-trailer_answer (Err e) = refusal_of e
+abbrev pub trailer_answer : Result Trailer Refusal → Answer Tail
+trailer_answer r = answer tail r

@@ -4,6 +4,4 @@
 mod codec;
 mod trailing;
 
-pub use codec::{
-    BlockPart, FrameHead, HeadAnswer, MacPart, Parsed, ParsedPacket, head, mac_start, parse,
-};
+pub use codec::{BlockPart, FrameHead, ParsedPacket, head, mac_start, parse};

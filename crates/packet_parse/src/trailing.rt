@@ -7,13 +7,8 @@ use packet_head::{CHECKSUM_LEN, CRC_LEN, Trailer};
 use refusal::Refusal;
 use slices::word;
 
-#[derive(Clone, Copy)]
-pub(crate) enum TrailerAnswer {
-    Good(Trailer),
-    Refused(Refusal),
-}
-
-fn check_crc(f: &[u8]) -> TrailerAnswer
+#[tactic(auto, unfolding(crate::specs::Trailer::trailer_of, laws::specs::Answer::refuse_if))]
+fn check_crc(f: &[u8]) -> Result<Trailer, Refusal>
     requires { CRC_LEN ≤ length f.now }
     ensures { trailer_answer result ≡ trailer_of f.now true }
 {
@@ -27,14 +22,14 @@ fn check_crc(f: &[u8]) -> TrailerAnswer
     }
 }
 
-fn check_sum(f: &[u8]) -> TrailerAnswer
+fn check_sum(f: &[u8]) -> Result<Trailer, Refusal>
     requires { CHECKSUM_LEN ≤ length f.now }
     ensures { trailer_answer result ≡ trailer_of f.now false }
 {
     let n = f.len();
     let got = f[n - CHECKSUM_LEN];
     // the whole frame is summed and its last byte taken out again: faster than a slice that is one shorter
-    let want = std::num::wrapping_add_u8(got, packet_sums::checksum8(f));
+    let want = got.wrapping_add(packet_sums::checksum8(f));
     if got == want {
         Ok(Trailer::Checksum(got))
     } else {
@@ -43,7 +38,7 @@ fn check_sum(f: &[u8]) -> TrailerAnswer
 }
 
 // The trailer of the whole frame f.
-pub(crate) fn check(f: &[u8], crc: bool) -> TrailerAnswer
+pub(crate) fn check(f: &[u8], crc: bool) -> Result<Trailer, Refusal>
     requires { CRC_LEN ≤ length f.now }
     ensures { trailer_answer result ≡ trailer_of f.now crc }
 {
