@@ -1,7 +1,7 @@
 -- The tests of building, one after the other: what each leaves to the next, and what they hand on.
 -- Assumes nothing.
-use mathlib.Core.Path.{◌≡◌, sym, ap, ◌∙◌}
-use mathlib.Core.Bool.{true, false}
+use mathlib.Core.Path.{◌≡◌, refl, sym, ap, ◌∙◌}
+use mathlib.Core.Bool.{Bool, true, false, not, beq}
 use mathlib.Core.List.{[], ◌∷◌}
 use Prim.Native.Nat.{ℕ, ◌≤◌, ◌<◌}
 use native.Mathlib.Omega.{arith}
@@ -43,6 +43,13 @@ encode_refused c z e h = elim (dec_lt 3 c.sqn) [
   | yes l ↦ let k = h ∙ encode_over c l in rw (lt-ltb _ _ l) (cc)
   | no n ↦ absurd (given-refused (sym (h ∙ encode_fine c (omega arith))))
 ]
+
+-- `!=` of two flags
+pub differ_as : (a b : Bool) → not (beq a b) ≡ differ a b
+differ_as true true = refl
+differ_as true false = refl
+differ_as false true = refl
+differ_as false false = refl
 
 -- ---- the others, in their order, once the control byte is b
 

@@ -1,6 +1,6 @@
 -- Building a frame (docs/RULES.md, 4): its bytes, and the order in which building is refused.
 -- Assumes nothing.
-use Rattle.std.specs.Prelude.{ℕ, ◌+◌, Bool, true, false, not, cond, List, [], ◌∷◌, ◌++◌, ltb, eqb, length}
+use Rattle.std.specs.Prelude.{ℕ, ◌+◌, Bool, true, false, not, cond, List, [], ◌∷◌, ◌++◌, ltb, eqb, length, Option, Some, None}
 use Rattle.laws.specs.Answer.{Answer, Answer.given, refuse_if, and_then}
 use Rattle.packet_sums.specs.Checksum.{checksum_of}
 use Rattle.packet_sums.specs.Crc.{crc_of}
@@ -9,8 +9,7 @@ use Rattle.slices.specs.Number.{low_first}
 use Rattle.packet_head.specs.Header.{Control, control, ctrl_byte}
 use Rattle.packet_head.specs.Block.{has_mac, type_of}
 use Rattle.packet_head.specs.Trailer.{trailer_len, mac_len_of}
-use Rattle.packet_build.specs.declared.codec.BuildBlock.{BuildBlock}
-use Rattle.packet_build.specs.declared.codec.GivenMac.{GivenMac}
+use Rattle.packet_head.specs.declared.scb.ScsType.{ScsType}
 use Rattle.packet_build.specs.declared.codec.PacketBuilder.{PacketBuilder}
 
 -- ---- what a frame is made of
@@ -119,14 +118,14 @@ body_of p have =
 
 -- ---- the code's kinds, as the paper has them; data beside an absent block is no part of the packet
 
-abbrev pub scb_given : BuildBlock → List ℕ → FrameBlock
+abbrev pub scb_given : Option ScsType → List ℕ → FrameBlock
 scb_given None l = no_scb
 scb_given (Some ty) l = scb (type_of ty) l
 
-abbrev pub mac_bytes : GivenMac → List ℕ
+abbrev pub mac_bytes : Option (List ℕ) → List ℕ
 mac_bytes None = []
-mac_bytes (GivenMac.Is a b c d) = a ∷ b ∷ c ∷ d ∷ []
+mac_bytes (Some four) = four
 
-abbrev pub parts_given : PacketBuilder → List ℕ → List ℕ → GivenMac → FrameParts
+abbrev pub parts_given : PacketBuilder → List ℕ → List ℕ → Option (List ℕ) → FrameParts
 parts_given w l d m =
     record { addr = w.addr.0; ctrl = control w.ctrl; block = scb_given w.block l; code = w.code; «data» = d; mac = mac_bytes m }

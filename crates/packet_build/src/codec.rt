@@ -6,46 +6,36 @@ ghost use Rattle.packet_head.specs.Numbers.{MAC_LEN};
 ghost use Rattle.packet_build.specs.Build.{mac_bytes, parts_given, build_of, body_of};
 
 use super::put::{put_body, put_mac, put_tail};
-use super::test::{Tested, test_parts};
+use super::test::test_parts;
 use packet_head::{Address, ControlByte, MAC_LEN, ScsType};
-use refusal::LengthAnswer;
+use refusal::Refusal;
 
-// The security block's type; its data is lent beside it.
-#[derive(Clone, Copy)]
-pub enum BuildBlock {
-    Absent,
-    Of(ScsType),
-}
+// The four bytes of a MAC, where one is given.
+pub type GivenMac = Option<[u8; MAC_LEN]>;
 
-#[derive(Clone, Copy)]
-pub enum GivenMac {
-    Absent,
-    Is(u8, u8, u8, u8),
-}
-
-impl GivenMac {
-    pub(crate) fn size(self) -> usize
-        ensures { (result ≡ length (mac_bytes self)) × (result ≤ MAC_LEN) }
-    {
-        match self {
-            None => 0,
-            GivenMac::Is(_, _, _, _) => MAC_LEN,
-        }
+// How many bytes they are.
+fn mac_size(mac: GivenMac) -> usize
+    ensures { (result ≡ length (mac_bytes mac)) × (result ≤ MAC_LEN) }
+{
+    match mac {
+        None => 0,
+        Some(_) => MAC_LEN,
     }
 }
 
+// The packet that is asked for; the data of its security block, where it has one, is lent beside it.
 #[derive(Clone, Copy)]
 pub struct PacketBuilder {
     pub addr: Address,
     pub ctrl: ControlByte,
-    pub block: BuildBlock,
+    pub block: Option<ScsType>,
     pub code: u8,
 }
 
 impl PacketBuilder {
     // A packet with neither block nor MAC.
     pub fn plain(addr: Address, ctrl: ControlByte, code: u8) -> Self
-        ensures { (result.addr ≡ addr) × (result.ctrl ≡ ctrl) × (result.block ≡ BuildBlock.Absent) × (result.code ≡ code) }
+        ensures { (result.addr ≡ addr) × (result.ctrl ≡ ctrl) × (result.block ≡ None) × (result.code ≡ code) }
     {
         Self {
             addr,
@@ -63,28 +53,27 @@ pub fn build(
     data: &[u8],
     mac: GivenMac,
     out: &mut [u8],
-) -> LengthAnswer
+) -> Result<usize, Refusal>
     ensures result_value { length_answer result ≡ sized (build_of (parts_given w block.now «data».now mac) (length out.old)) }
     ensures out_after { out.new ≡ written out.old (build_of (parts_given w block.now «data».now mac) (length out.old)) }
 {
-    match test_parts(w, block, data, mac.size(), out.len()) {
-        Tested::Total(total, ctrl) => {
-            let n = put_body(out, w, ctrl, block, data, total);
-            let m = put_mac(out, n, mac);
-            Ok(put_tail(out, m, w.ctrl.crc))
-        }
-        Tested::Refused(e) => Err(e),
-    }
+    let tested = test_parts(w, block, data, mac_size(mac), out.len())?;
+    let n = put_body(out, w, tested, block, data);
+    let m = put_mac(out, n, mac);
+    Ok(put_tail(out, m, w.ctrl.crc))
 }
 
 // The first of two calls, for a packet whose MAC is not known yet: it writes what the MAC is worked out over, from 53 to the
 // end of data, where the whole frame would have room. The second is build, given the MAC.
-pub fn build_body(w: PacketBuilder, block: &[u8], data: &[u8], out: &mut [u8]) -> LengthAnswer
-    ensures result_value { length_answer result ≡ sized (body_of (parts_given w block.now «data».now GivenMac.Absent) (length out.old)) }
-    ensures out_after { out.new ≡ written out.old (body_of (parts_given w block.now «data».now GivenMac.Absent) (length out.old)) }
+pub fn build_body(
+    w: PacketBuilder,
+    block: &[u8],
+    data: &[u8],
+    out: &mut [u8],
+) -> Result<usize, Refusal>
+    ensures result_value { length_answer result ≡ sized (body_of (parts_given w block.now «data».now None) (length out.old)) }
+    ensures out_after { out.new ≡ written out.old (body_of (parts_given w block.now «data».now None) (length out.old)) }
 {
-    match test_parts(w, block, data, MAC_LEN, out.len()) {
-        Tested::Total(total, ctrl) => Ok(put_body(out, w, ctrl, block, data, total)),
-        Tested::Refused(e) => Err(e),
-    }
+    let tested = test_parts(w, block, data, MAC_LEN, out.len())?;
+    Ok(put_body(out, w, tested, block, data))
 }

@@ -5,4 +5,4 @@ mod codec;
 mod put;
 mod test;
 
-pub use codec::{BuildBlock, GivenMac, PacketBuilder, build, build_body};
+pub use codec::{GivenMac, PacketBuilder, build, build_body};

@@ -6,13 +6,14 @@ ghost use Rattle.packet_head.specs.Header.{control, ctrl_byte};
 ghost use Rattle.packet_head.specs.Trailer.{trailer_len};
 ghost use Rattle.packet_build.specs.Build.{scb_given, block_n, block_bytes, body_bytes, mac_bytes, tail_bytes};
 
-use super::codec::{BuildBlock, GivenMac, PacketBuilder};
+use super::codec::{GivenMac, PacketBuilder};
+use super::test::Tested;
 use packet_head::{
-    CHECKSUM_LEN, CODE_LEN, CRC_LEN, HEADER_LEN, MAC_LEN, SCB_DATA_AT, SCB_HEADER_LEN, SOM,
+    CHECKSUM_LEN, CODE_LEN, CRC_LEN, HEADER_LEN, MAC_LEN, SCB_DATA_AT, SCB_HEADER_LEN, SOM, ScsType,
 };
 
 // The block behind the head, if there is one; the place after it.
-fn put_block(out: &mut [u8], block: BuildBlock, bytes: &[u8]) -> usize
+fn put_block(out: &mut [u8], block: Option<ScsType>, bytes: &[u8]) -> usize
     requires { (block_n (scb_given block bytes.now) ≤ MAX_SCB_DATA) × (HEADER_LEN + length (block_bytes (scb_given block bytes.now)) ≤ length out.old) }
     ensures value { result ≡ HEADER_LEN + length (block_bytes (scb_given block bytes.now)) }
     ensures out_after { out.new ≡ write out.old HEADER_LEN (block_bytes (scb_given block bytes.now)) }
@@ -28,24 +29,22 @@ fn put_block(out: &mut [u8], block: BuildBlock, bytes: &[u8]) -> usize
     }
 }
 
-// From 53 to the end of data; the place after it. `ctrl` is the control byte, encoded.
+// From 53 to the end of data; the place after it.
 pub(crate) fn put_body(
     out: &mut [u8],
     w: PacketBuilder,
-    ctrl: u8,
+    tested: Tested,
     bytes: &[u8],
     data: &[u8],
-    total: usize,
 ) -> usize
-    requires { (ctrl ≡ ctrl_byte (control w.ctrl)) × (block_n (scb_given w.block bytes.now) ≤ MAX_SCB_DATA) × (total ≤ MAX_LEN) × (HEADER_LEN + CODE_LEN + length (block_bytes (scb_given w.block bytes.now)) + length «data».now ≤ length out.old) }
+    requires { (tested.ctrl ≡ ctrl_byte (control w.ctrl)) × (block_n (scb_given w.block bytes.now) ≤ MAX_SCB_DATA) × (tested.total ≤ MAX_LEN) × (HEADER_LEN + CODE_LEN + length (block_bytes (scb_given w.block bytes.now)) + length «data».now ≤ length out.old) }
     ensures value { result ≡ HEADER_LEN + CODE_LEN + length (block_bytes (scb_given w.block bytes.now)) + length «data».now }
-    ensures out_after { out.new ≡ write out.old 0 (body_bytes w.addr.0 (control w.ctrl) (scb_given w.block bytes.now) w.code «data».now total) }
+    ensures out_after { out.new ≡ write out.old 0 (body_bytes w.addr.0 (control w.ctrl) (scb_given w.block bytes.now) w.code «data».now tested.total) }
 {
-    let len = slices::bytes_of_u16(total as u16);
-    let head = [SOM, w.addr.as_byte(), len[0], len[1], ctrl];
+    let len = slices::bytes_of_u16(tested.total as u16);
+    let head = [SOM, w.addr.as_byte(), len[0], len[1], tested.ctrl];
     slices::copy(out, 0, &head);
-    let block = w.block;
-    let at = put_block(out, block, bytes);
+    let at = put_block(out, w.block, bytes);
     out[at] = w.code;
     // to a part of just its length, so that the test of the room costs nothing
     let end = at + CODE_LEN + data.len();
@@ -61,8 +60,7 @@ pub(crate) fn put_mac(out: &mut [u8], at: usize, mac: GivenMac) -> usize
 {
     match mac {
         None => at,
-        GivenMac::Is(a, b, c, d) => {
-            let four = [a, b, c, d];
+        Some(four) => {
             slices::copy(out, at, &four);
             at + MAC_LEN
         }
@@ -81,8 +79,7 @@ pub(crate) fn put_tail(out: &mut [u8], at: usize, crc: bool) -> usize
         out[at + 1] = two[1];
         at + CRC_LEN
     } else {
-        let one = packet_sums::checksum8(&out[..at]);
-        out[at] = one;
+        out[at] = packet_sums::checksum8(&out[..at]);
         at + CHECKSUM_LEN
     }
 }

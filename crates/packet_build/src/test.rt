@@ -2,28 +2,20 @@
 ghost use Rattle.std.specs.Prelude.{◌≡◌, cond, ◌≤◌, ◌<◌, ◌^◌};
 ghost use Rattle.packet_head.specs.Numbers.{MAC_LEN};
 ghost use Rattle.packet_head.specs.Header.{control};
-ghost use Rattle.packet_build.specs.Build.{parts_given, differ, test_of, sizes_of};
-ghost use Rattle.packet_build.specs.declared.codec.GivenMac.{GivenMac};
+ghost use Rattle.packet_build.specs.Build.{parts_given, test_of, sizes_of};
 ghost use Rattle.packet_build.specs.Tested.{sizes, tested, with_ctrl};
 
-use super::codec::{BuildBlock, PacketBuilder};
+use super::codec::PacketBuilder;
 use packet_head::{
-    ControlByte, EncodedAnswer, HEAD_AND_CODE_LEN, MAC_LEN, MAX_LEN, MAX_SCB_DATA, SCB_HEADER_LEN,
-    trailer_len,
+    ControlByte, HEAD_AND_CODE_LEN, MAC_LEN, MAX_LEN, MAX_SCB_DATA, SCB_HEADER_LEN, trailer_len,
 };
 use refusal::Refusal;
 
 // How long the frame is, and its control byte.
 #[derive(Clone, Copy)]
-pub(crate) enum Tested {
-    Total(usize, u8),
-    Refused(Refusal),
-}
-
-fn differ(a: bool, b: bool) -> bool
-    ensures { result ≡ differ a b }
-{
-    if a { !b } else { b }
+pub(crate) struct Tested {
+    pub(crate) total: usize,
+    pub(crate) ctrl: u8,
 }
 
 // n where on holds, else 0.
@@ -45,22 +37,19 @@ struct Sizes {
 }
 
 // The tests in the paper's order.
-fn test(ctrl: ControlByte, z: Sizes) -> Tested
+fn test(ctrl: ControlByte, z: Sizes) -> Result<Tested, Refusal>
     requires { (z.block_data < 2 ^ 63) × (z.«data» < 2 ^ 63) × (z.mac ≤ MAC_LEN) }
     ensures { tested result ≡ with_ctrl (control ctrl) (test_of (control ctrl) (sizes z)) }
 {
-    let byte = match ctrl.encode() {
-        Ok(b) => b,
-        Err(e) => return Tested::Refused(e),
-    };
-    if differ(z.has_block, ctrl.block) {
-        return Tested::Refused(Refusal::BadControlByte(byte));
+    let byte = ctrl.encode()?;
+    if z.has_block != ctrl.block {
+        return Err(Refusal::BadControlByte(byte));
     }
     if z.mac != if_on(z.mac_due, MAC_LEN) {
-        return Tested::Refused(Refusal::BadMac);
+        return Err(Refusal::BadMac);
     }
     if MAX_SCB_DATA < z.block_data {
-        return Tested::Refused(Refusal::BlockTooLong(z.block_data));
+        return Err(Refusal::BlockTooLong(z.block_data));
     }
     let total = HEAD_AND_CODE_LEN
         + if_on(z.has_block, SCB_HEADER_LEN)
@@ -70,15 +59,15 @@ fn test(ctrl: ControlByte, z: Sizes) -> Tested
         + trailer_len(ctrl.crc);
     let have = z.room;
     if MAX_LEN < total {
-        return Tested::Refused(Refusal::BufferOverflow {
+        return Err(Refusal::BufferOverflow {
             need: total,
             have: MAX_LEN,
         });
     }
     if have < total {
-        return Tested::Refused(Refusal::NoRoom { need: total, have });
+        return Err(Refusal::NoRoom { need: total, have });
     }
-    Tested::Total(total, byte)
+    Ok(Tested { total, ctrl: byte })
 }
 
 // The same of what a caller hands over, with mac bytes of MAC.
@@ -88,33 +77,27 @@ pub(crate) fn test_parts(
     data: &[u8],
     mac: usize,
     have: usize,
-) -> Tested
+) -> Result<Tested, Refusal>
     requires { mac ≤ MAC_LEN }
-    ensures { tested result ≡ with_ctrl (control w.ctrl) (test_of (control w.ctrl) (sizes_of (parts_given w block.now «data».now GivenMac.Absent) mac have)) }
+    ensures { tested result ≡ with_ctrl (control w.ctrl) (test_of (control w.ctrl) (sizes_of (parts_given w block.now «data».now None) mac have)) }
 {
-    let kind = w.block;
-    match kind {
-        None => test(
-            w.ctrl,
-            Sizes {
-                has_block: false,
-                mac_due: false,
-                mac,
-                block_data: 0,
-                data: data.len(),
-                room: have,
-            },
-        ),
-        Some(ty) => test(
-            w.ctrl,
-            Sizes {
-                has_block: true,
-                mac_due: ty.has_mac(),
-                mac,
-                block_data: block.len(),
-                data: data.len(),
-                room: have,
-            },
-        ),
-    }
+    let sizes = match w.block {
+        None => Sizes {
+            has_block: false,
+            mac_due: false,
+            mac,
+            block_data: 0,
+            data: data.len(),
+            room: have,
+        },
+        Some(ty) => Sizes {
+            has_block: true,
+            mac_due: ty.has_mac(),
+            mac,
+            block_data: block.len(),
+            data: data.len(),
+            room: have,
+        },
+    };
+    test(w.ctrl, sizes)
 }

@@ -18,8 +18,8 @@ returns c = let a = c.args in
     let o = a.out.now in
     let b = block_bytes (scb_given a.w.block a.bytes.now) in
     let k = c.put_block-at in
-    let m = ap (λ (x : List ℕ). write o 0 (SOM ∷ c.as_byte.result ∷ get_or x 0 0 ∷ get_or x 1 0 ∷ a.ctrl ∷ [])) c.bytes_of_u16-len.ensures in
-    let h = copied_all o 0 _ c.copy.ensures.out_after (omega arith) ∙ m ∙ ap₂ (λ (x y : ℕ). write o 0 (SOM ∷ x ∷ low_first 2 a.total ++ (y ∷ []))) c.as_byte.ensures c.requires.0 in
+    let m = ap (λ (x : List ℕ). write o 0 (SOM ∷ c.as_byte.result ∷ get_or x 0 0 ∷ get_or x 1 0 ∷ a.tested.ctrl ∷ [])) c.bytes_of_u16-len.ensures in
+    let h = copied_all o 0 _ c.copy.ensures.out_after (omega arith) ∙ m ∙ ap₂ (λ (x y : ℕ). write o 0 (SOM ∷ x ∷ low_first 2 a.tested.total ++ (y ∷ []))) c.as_byte.ensures c.requires.0 in
     let b₁ = k.ensures.out_after ∙ ap (λ (x : List ℕ). write x 5 b) h in
     let c₁ = set-write _ k.result a.w.code (omega arith) ∙ ap (λ (x : List ℕ). write x k.result (a.w.code ∷ [])) b₁ in
     let d₁ =

@@ -20,4 +20,4 @@ pub returns-else-crc : goal.returns-else-crc
 returns-else-crc c = let a = c.args in
     let o = a.out.now in
     let r = rw c.if-crc.false at c.requires in
-    rw c.if-crc.false (record { value = omega arith; out_after = set-write o a.at _ (omega (arith, r)) ∙ ap (λ (v : ℕ). write o a.at (v ∷ [])) c.checksum8-one.ensures })
+    rw c.if-crc.false (record { value = omega arith; out_after = set-write o a.at _ (omega (arith, r)) ∙ ap (λ (v : ℕ). write o a.at (v ∷ [])) c.checksum8.ensures })
