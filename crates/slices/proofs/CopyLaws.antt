@@ -1,34 +1,27 @@
 -- A copy by its cases: all has room, or not; and zeros by theirs.
 -- Assumes nothing.
-use mathlib.Core.Bool.{Bool, true, false, not}
 use mathlib.Core.List.{List, ◌++◌}
-use mathlib.Core.Path.{◌≡◌, refl, sym, ap, ◌∙◌}
-use Prim.Native.Nat.{ℕ, ◌+◌, ◌-◌, ◌≤◌, ◌<◌}
+use mathlib.Core.Path.{◌≡◌, sym, ap, ◌∙◌}
+use Prim.Native.Nat.{ℕ, ◌+◌, ◌-◌, ◌≤◌}
 use native.Mathlib.Omega.{arith}
 use borrow.Author.Tests.{le-ltb}
 use lib.ListN.{length, take, drop, length-drop}
 use lib.Seq.{length-take-le}
 use Rattle.laws.specs.Bytes.{zeros}
 use Rattle.laws.specs.Over.{write}
+use Rattle.laws.proofs.Lists.{nothing}
 use Rattle.laws.proofs.Overwrite.{write_nil, write_whole, part_write}
-use Rattle.slices.specs.Place.{runs_past, fits}
 use Rattle.slices.specs.Copy.{copy_of, zero_of}
-use Rattle.slices.proofs.PlaceLaws.{fits-none, fits_all}
+use Rattle.slices.proofs.PlaceLaws.{fits_all}
 
 module _ (o : List ℕ) (at : ℕ) (s : List ℕ) where
   pub copy-all : at + length s ≤ length o → copy_of o at s ≡ write o at s
   unfolding copy_of
   copy-all h = rw (le-ltb (length o) (at + length s) h)
 
-  -- as the code finds it
-  module _ {b : Bool} (e : b ≡ runs_past (length o) at (length s)) where
-    pub copy-stopped : b ≡ true → (false ≡ not (runs_past (length o) at (length s))) × (o ≡ copy_of o at s)
-    unfolding copy_of
-    copy-stopped h = rw (← e, h) (refl, refl)
-
-    pub copy-made : b ≡ false → (true ≡ not (runs_past (length o) at (length s))) × (write o at s ≡ copy_of o at s)
-    unfolding copy_of
-    copy-made h = rw (← e, h) (refl, refl)
+  pub copy_none : length s ≡ 0 → copy_of o at s ≡ o
+  unfolding copy_of
+  copy_none h = let e : write o at s ≡ o = ap (write o at) (sym (nothing s h)) ∙ write_nil o at in grind (arith, e)
 
 -- as a caller finds it
 pub copied_all : (o : List ℕ) (at : ℕ) (s : List ℕ) {o₂ : List ℕ} → o₂ ≡ copy_of o at s → at + length s ≤ length o → o₂ ≡ write o at s
@@ -45,17 +38,9 @@ copied_part o at end s {m} e f h =
     part_write o at (end - at) m (ap length w ∙ sym k) ∙ ap (write o at) w
 
 module _ (o : List ℕ) (at n : ℕ) where
-  pub zero-none : length o < at → zero_of o at n ≡ o
-  unfolding zero_of
-  zero-none h = ap (λ (k : ℕ). write o at (zeros k)) (fits-none (length o) at n h) ∙ write_nil o at
-
   pub zero-all : at + n ≤ length o → zero_of o at n ≡ write o at (zeros n)
   unfolding zero_of
   zero-all h = rw (fits_all (length o) at n h)
-
-  pub zero-fits : (m : ℕ) → m ≡ fits (length o) at n → write o at (zeros m) ≡ zero_of o at n
-  unfolding zero_of
-  zero-fits m e = rw e
 
 pub zeroed_all : (o : List ℕ) (at n : ℕ) {o₂ : List ℕ} → o₂ ≡ zero_of o at n → at + n ≤ length o → o₂ ≡ write o at (zeros n)
 zeroed_all o at n e h = e ∙ zero-all o at n h

@@ -1,34 +1,23 @@
 -- A place that lies inside has its bytes, at their place; one that runs past the end shows none, at the first byte.
 -- Assumes nothing.
-use mathlib.Core.Bool.{Bool, true, false}
 use mathlib.Core.List.{List, []}
-use mathlib.Core.Path.{◌≡◌, refl, sym, ◌∙◌}
-use Prim.Native.Nat.{ℕ, ◌+◌, ◌-◌, ◌≤◌, ◌<◌}
+use mathlib.Core.Path.{◌≡◌}
+use Prim.Native.Nat.{ℕ, ◌+◌, ◌-◌, ◌^◌, ◌≤◌, ◌<◌, min}
 use native.Mathlib.Omega.{arith}
-use borrow.Author.Tests.{lt-ltb, le-ltb, ltb-true, ltb-false}
-use lib.Dec.{ltb}
+use borrow.Author.Tests.{lt-ltb, le-ltb}
 use lib.ListN.{length, take, drop}
-use Rattle.slices.specs.Place.{runs_past, fits, part_of, part_start}
-
--- the test by what is left after the start
-pub less_left : (n s l : ℕ) → s ≤ n → ltb (n - s) l ≡ runs_past n s l
-less_left n s l h = by (ltb (n - s) l) refl
-  where
-    by : (b : Bool) → ltb (n - s) l ≡ b → ltb (n - s) l ≡ runs_past n s l
-    by true e = e ∙ sym (lt-ltb n (s + l) (omega (arith, ltb-true (n - s) l e)))
-    by false e = e ∙ sym (le-ltb n (s + l) (omega (arith, ltb-false (n - s) l e)))
+use Rattle.std.proofs.lemmas.Bool.Decides.{nat_tests}
+use Rattle.slices.specs.Place.{fits, saturated, part_of, part_start}
 
 module _ (size at n : ℕ) where
   pub fits_all : at + n ≤ size → fits size at n ≡ n
   unfolding fits
   fits_all h = rw (le-ltb size (at + n) h)
 
-  pub fits-some : size < at + n → fits size at n ≡ size - at
+  -- by where the place ends, or the bytes do
+  pub fits_end : size < 2 ^ 64 → fits size at n ≡ min (saturated (at + n)) size - at
   unfolding fits
-  fits-some h = rw (lt-ltb size (at + n) h)
-
-  pub fits-none : size < at → fits size at n ≡ 0
-  fits-none h = fits-some (omega arith) ∙ omega arith
+  fits_end h = grind (arith, nat_tests)
 
 module _ (s : List ℕ) (at len : ℕ) where
   pub part_in : at + len ≤ length s → part_of s at len ≡ take len (drop at s)

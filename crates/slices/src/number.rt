@@ -3,51 +3,42 @@ ghost use Rattle.std.specs.Prelude.{◌≡◌, [], ◌∷◌};
 ghost use Rattle.slices.specs.Place.{part_of};
 ghost use Rattle.slices.specs.Number.{low_first, low_number};
 
+use super::place::part;
+
 pub fn word(lo: u8, hi: u8) -> u16
     ensures { result ≡ low_number (lo ∷ hi ∷ []) }
 {
-    (lo as u16) + 256 * (hi as u16)
+    u16::from_le_bytes([lo, hi])
 }
 
 // The number in the two bytes of s from `at` on; 0 where they run past its end.
+#[tactic(auto, unfolding(crate::specs::Place::part_of))]
 pub fn read_u16(s: &[u8], at: usize) -> u16
     ensures { result ≡ low_number (part_of s.now at 2) }
 {
-    if s.len() < at {
-        return 0;
-    }
-    if s.len() - at < 2 {
-        return 0;
-    }
-    word(s[at], s[at + 1])
+    part(s, at, 2)
+        .first_chunk()
+        .map_or(0, |bytes| u16::from_le_bytes(*bytes))
 }
 
 // The same of four bytes.
+#[tactic(auto, unfolding(crate::specs::Place::part_of))]
 pub fn read_u32(s: &[u8], at: usize) -> u32
     ensures { result ≡ low_number (part_of s.now at 4) }
 {
-    if s.len() < at {
-        return 0;
-    }
-    if s.len() - at < 4 {
-        return 0;
-    }
-    (word(s[at], s[at + 1]) as u32) + 65536 * (word(s[at + 2], s[at + 3]) as u32)
+    part(s, at, 4)
+        .first_chunk()
+        .map_or(0, |bytes| u32::from_le_bytes(*bytes))
 }
 
 pub fn bytes_of_u16(x: u16) -> [u8; 2]
     ensures { result ≡ low_first 2 x }
 {
-    [(x % 256) as u8, (x / 256 % 256) as u8]
+    u16::to_le_bytes(x)
 }
 
 pub fn bytes_of_u32(x: u32) -> [u8; 4]
     ensures { result ≡ low_first 4 x }
 {
-    [
-        (x % 256) as u8,
-        (x / 256 % 256) as u8,
-        (x / 256 / 256 % 256) as u8,
-        (x / 256 / 256 / 256 % 256) as u8,
-    ]
+    u32::to_le_bytes(x)
 }

@@ -1,4 +1,4 @@
-// Places in slices. A place is a start and a length, whose sum may pass 64 bits: it is made only where it fits.
+// Places in slices. A place is a start and a length, whose sum may pass 64 bits.
 ghost use Rattle.std.specs.Prelude.{◌≡◌, ◌+◌};
 ghost use Rattle.slices.specs.Stretch.{stretch_of};
 ghost use Rattle.slices.specs.Place.{runs_past, saturated, part_seen};
@@ -7,24 +7,19 @@ ghost use Rattle.slices.specs.Place.{runs_past, saturated, part_seen};
 pub fn outside(size: usize, start: usize, len: usize) -> bool
     ensures { result ≡ runs_past size start len }
 {
-    if size < start {
-        return true;
-    }
-    size - start < len
+    size.checked_sub(start).is_none_or(|room| room < len)
 }
 
 // The end of a place, as 64 bits carry it.
 pub fn end_of(start: usize, len: usize) -> usize
     ensures { result ≡ saturated (start + len) }
 {
-    if outside(0xffff_ffff_ffff_ffff, start, len) {
-        0xffff_ffff_ffff_ffff
-    } else {
-        start + len
-    }
+    start.saturating_add(len)
 }
 
-// The len bytes of s from start on, or its empty first part where they run past its end.
+// The len bytes of s from start on, or its empty first part where they run past its end. Not by `get`, which promises the bytes and
+// not where they lie: `part_seen` says both.
+#[tactic(auto, unfolding(crate::specs::Place::part_of, crate::specs::Place::part_start))]
 pub fn part(s: &[u8], start: usize, len: usize) -> &[u8]
     ensures { stretch_of result ≡ part_seen s.entry start len }
 {
