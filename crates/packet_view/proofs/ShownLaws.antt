@@ -85,15 +85,15 @@ module _ (p : Fields → Span) (q : Shown → Span) (at : PlaceOf p q) where
       ∙ (λ i. stretch_in s (place-starts s.now (parse_of s.now) (parse_inside s.now) i) (place-shows s.now (parse_of s.now) (parse_inside s.now) i))
 
 module _ (s : Bor (List ℕ)) (w : PacketView) (e : viewed w ≡ (s, places_of (parse_of s.now))) where
-  pub block-data-shown : part_seen w.frame w.block_at w.block_len ≡ block_data_seen s
+  pub block-data-shown : part_seen w.frame (viewed w).1.block.at (viewed w).1.block.len ≡ block_data_seen s
   unfolding block_data_of
   block-data-shown = view-shows block_part_of (λ x. x.block) block_placed s w e
 
-  pub payload-shown : part_seen w.frame w.data_at w.data_len ≡ payload_seen s
+  pub payload-shown : part_seen w.frame (viewed w).1.payload.at (viewed w).1.payload.len ≡ payload_seen s
   unfolding payload_of
   payload-shown = view-shows data_in (λ x. x.payload) payload_placed s w e
 
-  pub mac-shown : part_seen w.frame w.mac_at w.mac_len ≡ frame_mac_seen s
+  pub mac-shown : part_seen w.frame (viewed w).1.mac.at (viewed w).1.mac.len ≡ frame_mac_seen s
   unfolding frame_mac_of
   mac-shown = view-shows mac_part_of (λ x. x.mac) mac_placed s w e
 

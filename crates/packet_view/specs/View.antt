@@ -1,16 +1,18 @@
 -- The view of a frame (docs/RULES.md, 3.5): what it tells, and the three parts of the caller's bytes that it shows.
 -- Assumes nothing.
-use Rattle.std.specs.Prelude.{ℕ, false, List, [], take, drop}
+use Rattle.std.specs.Prelude.{ℕ, false, List, [], take, drop, Option, Some, None, Result, Ok, Err}
 use Rattle.std.specs.Borrow.{Bor}
 use Rattle.laws.specs.Answer.{Answer, Answer.given, Answer.refused}
 use Rattle.slices.specs.Stretch.{Stretch, stretch_in}
-use Rattle.refusal.specs.Reading.{outcome_answer}
+use Rattle.refusal.specs.Paper.{number_of, values_of}
+use Rattle.refusal.specs.declared.Refusal.{Refusal}
 use Rattle.packet_head.specs.Numbers.{MAC_LEN}
 use Rattle.packet_head.specs.Header.{Control, control}
 use Rattle.packet_head.specs.Block.{type_of}
+use Rattle.packet_head.specs.declared.scb.ScsType.{ScsType}
 use Rattle.packet_head.specs.Trailer.{Tail, Tail.checksum, tail}
 use Rattle.packet_parse.specs.Frame.{Fields, BlockAt, MacAt, MacAt.no_mac, MacAt.mac_from, type_in, block_start_in, block_len_in, parse_of}
-use Rattle.packet_view.specs.declared.parts.BlockKind.{BlockKind}
+use Rattle.packet_view.specs.declared.parts.Span as parts
 use Rattle.packet_view.specs.declared.parts.Places.{Places}
 use Rattle.packet_view.specs.declared.view.PacketView.{PacketView}
 
@@ -48,7 +50,23 @@ pub record Shown : Type 0 where
   pub payload : Span
   pub mac : Span
 
--- of an accepted frame its fields; after a refusal nothing else, and the parts are empty
+-- after a refusal nothing else is told, and the parts are empty
+abbrev pub nothing_shown : ℕ → List ℕ → Shown
+nothing_shown n vs =
+    record {
+      outcome = refused n vs;
+      addr = 0;
+      ctrl = record { sqn = 0; crc = false; block = false };
+      type = 0;
+      code = 0;
+      trailer = checksum 0;
+      len = 0;
+      block = nowhere;
+      payload = nowhere;
+      mac = nowhere;
+    }
+
+-- of an accepted frame its fields
 unfoldable pub places_of : Answer Fields → Shown
 places_of (given F) =
     record {
@@ -63,19 +81,7 @@ places_of (given F) =
       payload = data_in F;
       mac = mac_in F.mac;
     }
-places_of (refused n vs) =
-    record {
-      outcome = refused n vs;
-      addr = 0;
-      ctrl = record { sqn = 0; crc = false; block = false };
-      type = 0;
-      code = 0;
-      trailer = checksum 0;
-      len = 0;
-      block = nowhere;
-      payload = nowhere;
-      mac = nowhere;
-    }
+places_of (refused n vs) = nothing_shown n vs
 
 -- ---- the three parts, of the frame at the start of s
 
@@ -110,39 +116,29 @@ frame_mac_seen s = stretch_in s (start_at (λ F. mac_in F.mac) (parse_of s.now))
 
 -- ---- the code's kinds, as the paper has them
 
-abbrev pub kind_of : BlockKind → ℕ
+abbrev pub kind_of : Option ScsType → ℕ
 kind_of None = 0
 kind_of (Some ty) = type_of ty
 
-abbrev pub places_told : Places → Shown
-places_told p =
+abbrev pub span : parts.Span → Span
+span p = record { at = p.at; len = p.len }
+
+abbrev pub places_told : Result Places Refusal → Shown
+places_told (Ok p) =
     record {
-      outcome = outcome_answer p.outcome tt;
+      outcome = given tt;
       addr = p.addr.0;
       ctrl = control p.ctrl;
       type = kind_of p.block;
       code = p.code;
       trailer = tail p.trailer;
       len = p.len;
-      block = record { at = p.block_at; len = p.block_len };
-      payload = record { at = p.data_at; len = p.data_len };
-      mac = record { at = p.mac_at; len = p.mac_len };
+      block = span p.block_data;
+      payload = span p.payload;
+      mac = span p.mac;
     }
+places_told (Err e) = nothing_shown (number_of e) (values_of e)
 
 -- a view's frame, and what it tells
 abbrev pub viewed : PacketView → Bor (List ℕ) × Shown
-viewed v = (
-  v.frame,
-  record {
-    outcome = outcome_answer v.outcome tt;
-    addr = v.addr.0;
-    ctrl = control v.ctrl;
-    type = kind_of v.block;
-    code = v.code;
-    trailer = tail v.trailer;
-    len = v.len;
-    block = record { at = v.block_at; len = v.block_len };
-    payload = record { at = v.data_at; len = v.data_len };
-    mac = record { at = v.mac_at; len = v.mac_len };
-  },
-)
+viewed v = (v.frame, places_told v.read)

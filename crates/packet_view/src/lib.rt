@@ -4,5 +4,5 @@
 mod parts;
 mod view;
 
-pub use parts::{BlockKind, Places, places_in};
+pub use parts::{Places, Span, places_in};
 pub use view::{PacketView, block_data_in, mac_in, payload_in};

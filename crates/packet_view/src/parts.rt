@@ -1,129 +1,102 @@
-// What a frame tells and where its parts stand, by value.
-ghost use Rattle.std.specs.Prelude.{◌≡◌};
-ghost use Rattle.refusal.specs.Paper.{refusal_of};
+// What a frame's view tells and where its parts stand, by value.
+ghost use Rattle.std.specs.Prelude.{◌≡◌, Ok};
+ghost use Rattle.slices.specs.Stretch.{stretch_of};
+ghost use Rattle.slices.specs.Place.{part_seen};
 ghost use Rattle.packet_parse.specs.Frame.{type_in, parse_of, fields, block_place, mac_place};
 ghost use Rattle.laws.specs.Answer.{Answer.given};
-ghost use Rattle.packet_view.specs.View.{places_told, places_of, kind_of, block_in, mac_in};
+ghost use Rattle.packet_view.specs.View.{kind_of, places_told, places_of, span, block_in, mac_in};
 
-use packet_head::{Address, ControlByte, MAC_LEN, ScsType, Sqn, Trailer};
-use packet_parse::{BlockPart, MacPart, Parsed, ParsedPacket, parse};
-use refusal::{Outcome, Refusal};
+use packet_head::{Address, ControlByte, MAC_LEN, ScsType, Trailer};
+use packet_parse::{BlockPart, ParsedPacket, parse};
+use refusal::Refusal;
 
-#[derive(Clone, Copy)]
-pub enum BlockKind {
-    Absent,
-    Present(ScsType),
+// A part of a frame: its place, counted from the frame's first byte, and its length, which is 0 where the part is not there.
+#[derive(Clone, Copy, PartialEq, Eq)]
+pub struct Span {
+    pub at: usize,
+    pub len: usize,
 }
 
-// Each place is counted from the frame's first byte. A part that is not there has the length 0.
+impl Span {
+    pub(crate) const NOWHERE: Self = Self { at: 0, len: 0 };
+
+    // The bytes there, or the slice's empty first part where they run past its end.
+    pub fn of(self, bytes: &[u8]) -> &[u8]
+        ensures { stretch_of result ≡ part_seen bytes.entry self.at self.len }
+    {
+        slices::part(bytes, self.at, self.len)
+    }
+}
+
 #[derive(Clone, Copy)]
 pub struct Places {
-    pub outcome: Outcome,
     pub addr: Address,
     pub ctrl: ControlByte,
-    pub block: BlockKind,
+    pub block: Option<ScsType>,
     pub code: u8,
     pub trailer: Trailer,
     pub len: usize,
-    pub block_at: usize,
-    pub block_len: usize,
-    pub data_at: usize,
-    pub data_len: usize,
-    pub mac_at: usize,
-    pub mac_len: usize,
+    pub block_data: Span,
+    pub payload: Span,
+    pub mac: Span,
 }
 
-#[derive(Clone, Copy)]
-struct Span {
-    at: usize,
-    len: usize,
-}
-
-fn block_kind(b: BlockPart) -> BlockKind
-    ensures { kind_of result ≡ type_in (block_place b) }
+fn block_span(block: Option<BlockPart>) -> Span
+    ensures { span result ≡ block_in (block_place block) }
 {
-    match b {
-        None => None,
-        BlockPart::At {
-            ty,
-            start: _,
-            len: _,
-        } => Some(ty),
+    match block {
+        None => Span::NOWHERE,
+        Some(b) => Span {
+            at: b.start,
+            len: b.len,
+        },
     }
 }
 
-fn block_span(b: BlockPart) -> Span
-    ensures { (result.at ≡ (block_in (block_place b)).at) × (result.len ≡ (block_in (block_place b)).len) }
+fn mac_span(mac: Option<usize>) -> Span
+    ensures { span result ≡ mac_in (mac_place mac) }
 {
-    match b {
-        None => Span { at: 0, len: 0 },
-        BlockPart::At { ty: _, start, len } => Span { at: start, len },
-    }
-}
-
-fn mac_span(m: MacPart) -> Span
-    ensures { (result.at ≡ (mac_in (mac_place m)).at) × (result.len ≡ (mac_in (mac_place m)).len) }
-{
-    match m {
-        None => Span { at: 0, len: 0 },
+    match mac {
+        None => Span::NOWHERE,
         Some(at) => Span { at, len: MAC_LEN },
     }
 }
 
-fn accepted(p: ParsedPacket) -> Places
-    ensures { places_told result ≡ places_of (given (fields p)) }
+fn block_kind(block: Option<BlockPart>) -> Option<ScsType>
+    ensures { kind_of result ≡ type_in (block_place block) }
 {
-    let addr = p.addr;
-    let ctrl = p.ctrl;
-    let b = p.block;
-    let m = p.mac;
-    let trailer = p.trailer;
-    let block = block_span(b);
-    let mac = mac_span(m);
-    Places {
-        outcome: Ok(()),
-        addr,
-        ctrl,
-        block: block_kind(b),
-        code: p.code,
-        trailer,
-        len: p.len,
-        block_at: block.at,
-        block_len: block.len,
-        data_at: p.data_start,
-        data_len: p.data_len,
-        mac_at: mac.at,
-        mac_len: mac.len,
+    match block {
+        None => None,
+        Some(b) => Some(b.ty),
     }
 }
 
-// Nothing is told but the refusal, and every part is empty.
-fn refused(e: Refusal) -> Places
-    ensures { places_told result ≡ places_of (refusal_of e) }
-{
-    Places {
-        outcome: Err(e),
-        addr: Address::from_raw(0),
-        ctrl: ControlByte::new(Sqn::ZERO, false, false),
-        block: None,
-        code: 0,
-        trailer: Trailer::Checksum(0),
-        len: 0,
-        block_at: 0,
-        block_len: 0,
-        data_at: 0,
-        data_len: 0,
-        mac_at: 0,
-        mac_len: 0,
+impl From<ParsedPacket> for Places {
+    ghost from_gives = { λ p r. places_told (Ok r) ≡ places_of (given (fields p)) };
+
+    #[tactic(auto, unfolding(crate::specs::View::places_of))]
+    fn from(p: ParsedPacket) -> Self {
+        Places {
+            addr: p.addr,
+            ctrl: p.ctrl,
+            block: block_kind(p.block),
+            code: p.code,
+            trailer: p.trailer,
+            len: p.len,
+            block_data: block_span(p.block),
+            payload: Span {
+                at: p.data_start,
+                len: p.data_len,
+            },
+            mac: mac_span(p.mac),
+        }
     }
 }
 
 // Where the parts of the frame at the start of buf stand.
-pub fn places_in(buf: &[u8]) -> Places
+#[tactic(auto, unfolding(crate::specs::View::places_of))]
+pub fn places_in(buf: &[u8]) -> Result<Places, Refusal>
     ensures { places_told result ≡ places_of (parse_of buf.now) }
 {
-    match parse(buf) {
-        Ok(p) => accepted(p),
-        Err(e) => refused(e),
-    }
+    Ok(Places::from(parse(buf)?))
 }

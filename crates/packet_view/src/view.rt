@@ -3,29 +3,42 @@ ghost use Rattle.std.specs.Prelude.{◌≡◌};
 ghost use Rattle.slices.specs.Stretch.{stretch_of};
 ghost use Rattle.packet_parse.specs.Frame.{parse_of};
 ghost use Rattle.slices.specs.Place.{part_seen};
-ghost use Rattle.packet_view.specs.View.{places_of, viewed, block_data_seen, payload_seen, frame_mac_seen};
+ghost use Rattle.packet_view.specs.View.{span, places_told, places_of, viewed, block_data_seen, payload_seen, frame_mac_seen};
 
-use super::parts::{BlockKind, places_in};
-use packet_head::{Address, ControlByte, Trailer};
-use refusal::Outcome;
-use slices::part;
+use super::parts::{Places, Span, places_in};
+use refusal::Refusal;
 
+// A frame, and what reading it told.
 #[derive(Clone, Copy)]
 pub struct PacketView<'a> {
     pub frame: &'a [u8],
-    pub outcome: Outcome,
-    pub addr: Address,
-    pub ctrl: ControlByte,
-    pub block: BlockKind,
-    pub code: u8,
-    pub trailer: Trailer,
-    pub len: usize,
-    pub block_at: usize,
-    pub block_len: usize,
-    pub data_at: usize,
-    pub data_len: usize,
-    pub mac_at: usize,
-    pub mac_len: usize,
+    pub read: Result<Places, Refusal>,
+}
+
+// Where the three parts stand.
+#[derive(Clone, Copy)]
+struct Parts {
+    block_data: Span,
+    payload: Span,
+    mac: Span,
+}
+
+// After a refusal each is empty.
+fn parts_of(read: Result<Places, Refusal>) -> Parts
+    ensures { (span result.block_data ≡ (places_told read).block) × (span result.payload ≡ (places_told read).payload) × (span result.mac ≡ (places_told read).mac) }
+{
+    match read {
+        Ok(p) => Parts {
+            block_data: p.block_data,
+            payload: p.payload,
+            mac: p.mac,
+        },
+        Err(_) => Parts {
+            block_data: Span::NOWHERE,
+            payload: Span::NOWHERE,
+            mac: Span::NOWHERE,
+        },
+    }
 }
 
 impl<'a> PacketView<'a> {
@@ -33,41 +46,28 @@ impl<'a> PacketView<'a> {
     pub fn parse(frame: &'a [u8]) -> PacketView<'a>
         ensures { viewed result ≡ (frame.entry, places_of (parse_of frame.now)) }
     {
-        let p = places_in(frame);
         PacketView {
             frame,
-            outcome: p.outcome,
-            addr: p.addr,
-            ctrl: p.ctrl,
-            block: p.block,
-            code: p.code,
-            trailer: p.trailer,
-            len: p.len,
-            block_at: p.block_at,
-            block_len: p.block_len,
-            data_at: p.data_at,
-            data_len: p.data_len,
-            mac_at: p.mac_at,
-            mac_len: p.mac_len,
+            read: places_in(frame),
         }
     }
 
     pub fn block_data(self) -> &'a [u8]
-        ensures { stretch_of result ≡ part_seen self.entry.frame self.entry.block_at self.entry.block_len }
+        ensures { stretch_of result ≡ part_seen self.entry.frame (viewed self.entry).1.block.at (viewed self.entry).1.block.len }
     {
-        part(self.frame, self.block_at, self.block_len)
+        parts_of(self.read).block_data.of(self.frame)
     }
 
     pub fn payload(self) -> &'a [u8]
-        ensures { stretch_of result ≡ part_seen self.entry.frame self.entry.data_at self.entry.data_len }
+        ensures { stretch_of result ≡ part_seen self.entry.frame (viewed self.entry).1.payload.at (viewed self.entry).1.payload.len }
     {
-        part(self.frame, self.data_at, self.data_len)
+        parts_of(self.read).payload.of(self.frame)
     }
 
     pub fn mac(self) -> &'a [u8]
-        ensures { stretch_of result ≡ part_seen self.entry.frame self.entry.mac_at self.entry.mac_len }
+        ensures { stretch_of result ≡ part_seen self.entry.frame (viewed self.entry).1.mac.at (viewed self.entry).1.mac.len }
     {
-        part(self.frame, self.mac_at, self.mac_len)
+        parts_of(self.read).mac.of(self.frame)
     }
 }
 
