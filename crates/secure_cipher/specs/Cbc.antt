@@ -97,5 +97,5 @@ decrypt_of k v c o =
 
 -- ---- the code's answer, as the paper has it; `o` is the buffer in the end
 
-abbrev pub cipher_told : Ciphered → List ℕ → Done
+abbrev pub cipher_told : Ciphered ℕ → List ℕ → Done
 cipher_told r o = record { answer = length_answer r.answer; out = o; steps = r.calls }

@@ -8,12 +8,12 @@ ghost use Rattle.secure_cipher.specs.Cbc.{hide, dec_run, encrypt_of, decrypt_of,
 ghost use Rattle.secure_cipher.specs.Parts.{bad_padding, Deciphered};
 
 use super::{block, pad};
-use refusal::{LengthAnswer, Refusal};
+use refusal::Refusal;
 
 // What a call answers, and how often it called the cipher.
 #[derive(Clone, Copy)]
-pub struct Ciphered {
-    pub answer: LengthAnswer,
+pub struct Ciphered<T> {
+    pub answer: Result<T, Refusal>,
     pub calls: usize,
 }
 
@@ -58,7 +58,7 @@ fn encrypt_blocks(key: [u8; 16], iv: [u8; 16], data: &[u8], out: &mut [u8]) -> u
 }
 
 // Pads and enciphers data into out.
-pub fn encrypt_data(s_enc: [u8; 16], iv: [u8; 16], data: &[u8], out: &mut [u8]) -> Ciphered
+pub fn encrypt_data(s_enc: [u8; 16], iv: [u8; 16], data: &[u8], out: &mut [u8]) -> Ciphered<usize>
     ensures { cipher_told result out.new ≡ encrypt_of s_enc iv «data».now out.old }
 {
     let need = data.len() / 16 * 16 + 16;
@@ -98,7 +98,7 @@ fn decrypt_blocks(key: [u8; 16], iv: [u8; 16], ct: &[u8], out: &mut [u8]) -> usi
 }
 
 // Refuses by 14, with the first n bytes of out wiped.
-fn bad_padding(out: &mut [u8], n: usize, calls: usize) -> Ciphered
+fn bad_padding(out: &mut [u8], n: usize, calls: usize) -> Ciphered<usize>
     requires { n ≤ length out.old }
     ensures { cipher_told result out.new ≡ bad_padding n out.old calls }
 {
@@ -110,7 +110,7 @@ fn bad_padding(out: &mut [u8], n: usize, calls: usize) -> Ciphered
 }
 
 // Deciphers ct into out and unpads it; a refusal by 14 leaves nothing of a plaintext behind.
-pub fn decrypt_data(s_enc: [u8; 16], iv: [u8; 16], ct: &[u8], out: &mut [u8]) -> Ciphered
+pub fn decrypt_data(s_enc: [u8; 16], iv: [u8; 16], ct: &[u8], out: &mut [u8]) -> Ciphered<usize>
     ensures { cipher_told result out.new ≡ decrypt_of s_enc iv ct.now out.old }
 {
     let n = ct.len();

@@ -4,10 +4,10 @@ ghost use Rattle.laws.specs.Buffer.{sized, written};
 ghost use Rattle.refusal.specs.Reading.{length_answer};
 ghost use Rattle.secure_cipher.specs.Pad.{pad_mac, pad_data, unpad, fitting};
 
-use refusal::{LengthAnswer, Refusal};
+use refusal::Refusal;
 
 // For the MAC: nothing is added at a multiple of 16.
-pub fn pad_mac(data: &[u8], out: &mut [u8]) -> LengthAnswer
+pub fn pad_mac(data: &[u8], out: &mut [u8]) -> Result<usize, Refusal>
     ensures result_value { length_answer result ≡ sized (fitting (pad_mac «data».now) (length out.old)) }
     ensures out_after { out.new ≡ written out.old (fitting (pad_mac «data».now) (length out.old)) }
 {
@@ -26,7 +26,7 @@ pub fn pad_mac(data: &[u8], out: &mut [u8]) -> LengthAnswer
 }
 
 // For encrypted data: always at least the 80.
-pub fn pad_data(data: &[u8], out: &mut [u8]) -> LengthAnswer
+pub fn pad_data(data: &[u8], out: &mut [u8]) -> Result<usize, Refusal>
     ensures result_value { length_answer result ≡ sized (fitting (pad_data «data».now) (length out.old)) }
     ensures out_after { out.new ≡ written out.old (fitting (pad_data «data».now) (length out.old)) }
 {
@@ -45,12 +45,10 @@ pub fn pad_data(data: &[u8], out: &mut [u8]) -> LengthAnswer
 }
 
 // How many bytes stand before the padding.
-pub fn unpad_data(buf: &[u8]) -> LengthAnswer
+pub fn unpad_data(buf: &[u8]) -> Result<usize, Refusal>
     ensures { length_answer result ≡ unpad buf.now }
 {
-    let mut i = buf.len();
-    while 0 < i {
-        let j = i - 1;
+    for j in (0..buf.len()).rev() {
         let b = buf[j];
         if b == 0x80 {
             return Ok(j);
@@ -58,7 +56,6 @@ pub fn unpad_data(buf: &[u8]) -> LengthAnswer
         if b != 0 {
             return Err(Refusal::BadPadding);
         }
-        i = j;
     }
     Err(Refusal::BadPadding)
 }

@@ -26,17 +26,17 @@ pub bounds-out-len : goal.bounds-out-len
 bounds-out-len c = let a = c.args in
     let e : Deciphered _ _ _ _ _ = c.decrypt_blocks-calls.ensures in
     let t = flat (dec_run a.s_enc a.iv (blocks a.ct.now)).out in
-    let l = unpad-less t _ (sym (ap length_answer (sym c.in-Of.is) ∙ c.unpad_data.ensures ∙ ap unpad (read-text e))) in
+    let l = unpad-less t _ (sym (ap length_answer (sym c.in-Ok.is) ∙ c.unpad_data.ensures ∙ ap unpad (read-text e))) in
     omega (arith, l, e.size, c.if-out-n.false)
 
-pub returns-in-Of : goal.returns-in-Of
-returns-in-Of c = let a = c.args in
+pub returns-in-Ok : goal.returns-in-Ok
+returns-in-Ok c = let a = c.args in
     let e : Deciphered _ _ _ _ _ = c.decrypt_blocks-calls.ensures in
     cc (decrypt-good a.s_enc a.iv a.ct.now a.out.now _ _ c.if-out-n.false c.if-n-eq0.false c.if-n-ne0.false e.here e.size e.counted _
-    (ap length_answer (sym c.in-Of.is) ∙ c.unpad_data.ensures ∙ ap unpad (read-text e)))
+    (ap length_answer (sym c.in-Ok.is) ∙ c.unpad_data.ensures ∙ ap unpad (read-text e)))
 
-pub returns-in-Refused : goal.returns-in-Refused
-returns-in-Refused c = let a = c.args in
+pub returns-in-Err : goal.returns-in-Err
+returns-in-Err c = let a = c.args in
     let e : Deciphered _ _ _ _ _ = c.decrypt_blocks-calls.ensures in
     cc (decrypt-bad a.s_enc a.iv a.ct.now a.out.now _ _ c.if-out-n.false c.if-n-eq0.false c.if-n-ne0.false e.here e.size e.counted _ _
-    (ap length_answer (sym c.in-Refused.is) ∙ c.unpad_data.ensures ∙ ap unpad (read-text e)))
+    (ap length_answer (sym c.in-Err.is) ∙ c.unpad_data.ensures ∙ ap unpad (read-text e)))
