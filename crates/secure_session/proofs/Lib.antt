@@ -1,6 +1,5 @@
-mod Cases
 mod Four
-mod ChannelCases
+mod Marks
 pub mod Settled
 pub mod SessionLaws
 pub mod Shaken

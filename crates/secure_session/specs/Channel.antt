@@ -1,9 +1,10 @@
 -- The calls of a session that is Secure (docs/RULES.md, 7).
 -- Assumes nothing.
-use Rattle.std.specs.Prelude.{ℕ, cond, List, [], take}
+use Rattle.std.specs.Prelude.{ℕ, cond, List, [], take, Result}
 use Rattle.laws.specs.Answer.{Answer, Answer.given, Answer.refused}
 use Rattle.laws.specs.Bytes.{compl, eql}
-use Rattle.refusal.specs.Reading.{outcome_answer}
+use Rattle.refusal.specs.Reading.{answer}
+use Rattle.refusal.specs.declared.Refusal.{Refusal}
 use Rattle.packet_head.specs.Numbers.{MAC_LEN}
 use Rattle.secure_keys.specs.declared.crypto.SessionKeys.{SessionKeys}
 use Rattle.secure_cipher.specs.Mac.{Mac, mac_of}
@@ -12,7 +13,6 @@ use Rattle.secure_session.specs.Chain.{send_from, recv_from, sent, received}
 use Rattle.secure_session.specs.Session.{is_secure, no_keys}
 use Rattle.secure_session.specs.Handshake.{Step, wrong_state}
 use Rattle.secure_session.specs.declared.session.Session.{Session}
-use Rattle.secure_session.specs.declared.session.KeysAnswer.{KeysAnswer}
 
 abbrev pub session_mac : Session → List ℕ → List ℕ → Mac
 session_mac s v l = mac_of s.keys.s_mac1 s.keys.s_mac2 v l
@@ -45,11 +45,12 @@ seal_data_of s x o = cond (is_secure s.state) (encrypt_of s.keys.s_enc (compl (s
 unfoldable pub open_data_of : Session → List ℕ → List ℕ → Done
 open_data_of s c o = cond (is_secure s.state) (decrypt_of s.keys.s_enc (compl (recv_from s)) c o) (cipher_stop 16 [] o)
 
--- ---- the code's answer, as the paper has it; beside a refusal the keys are all zeros
+-- ---- the code's answer, as the paper has it
 
-abbrev pub keys_answer : KeysAnswer → Answer SessionKeys
-keys_answer r = outcome_answer r.outcome r.keys
+abbrev pub keys_answer : Result SessionKeys Refusal → Answer SessionKeys
+keys_answer r = answer (λ k. k) r
 
+-- the keys of an answer: zeros beside a refusal
 abbrev pub keys_beside : Answer SessionKeys → SessionKeys
 keys_beside (given k) = k
 keys_beside (refused n vs) = no_keys

@@ -1,17 +1,16 @@
 -- The calls of the handshake, at both ends (docs/RULES.md, 7): each answers, and leaves a session.
 -- Assumes nothing.
-use Rattle.std.specs.Prelude.{ℕ, cond, List, []}
+use Rattle.std.specs.Prelude.{ℕ, cond, List, [], Result, ⊤}
 use Rattle.laws.specs.Answer.{Answer, Answer.given, Answer.refused}
 use Rattle.laws.specs.Bytes.{zeros, eql}
-use Rattle.refusal.specs.Reading.{outcome_answer}
+use Rattle.refusal.specs.Reading.{answer, outcome_answer}
+use Rattle.refusal.specs.declared.Refusal.{Refusal}
 use Rattle.secure_keys.specs.Keys.{derive, client_of, server_of, first_of}
 use Rattle.secure_session.specs.Session.{is_at, reset, with_step, secured}
 use Rattle.secure_session.specs.declared.session.End.TheVariants.{Controller, Reader}
 use Rattle.secure_session.specs.declared.session.State.TheVariants.{Disconnected, Challenged, Cryptogrammed}
 use Rattle.secure_session.specs.declared.session.Session.{Session}
 use Rattle.secure_session.specs.declared.session.Stepped.{Stepped}
-use Rattle.secure_session.specs.declared.session.SteppedBlock.{SteppedBlock}
-use Rattle.secure_session.specs.declared.session.BlockAnswer.{BlockAnswer}
 
 -- what a call answers, and the session after it
 pub record Step (A : Type 0) : Type 0 where
@@ -87,16 +86,16 @@ receive_scrypt_of s c =
     (wrong_cryptogram s))
     (wrong_state s)
 
--- ---- the code's answers, as the paper has them; beside a refusal a block is all zeros
+-- ---- the code's answers, as the paper has them
 
-abbrev pub stepped : Stepped → Step (Unit {0})
-stepped r = record { answer = outcome_answer r.outcome tt; session = r.session }
+abbrev pub stepped : Stepped ⊤ → Step (Unit {0})
+stepped r = record { answer = outcome_answer r.answer tt; session = r.session }
 
-abbrev pub stepped_block : SteppedBlock → Step (List ℕ)
-stepped_block r = record { answer = outcome_answer r.outcome r.block; session = r.session }
+abbrev pub stepped_block : Stepped (List ℕ) → Step (List ℕ)
+stepped_block r = record { answer = answer (λ b. b) r.answer; session = r.session }
 
-abbrev pub block_answer : BlockAnswer → Answer (List ℕ)
-block_answer r = outcome_answer r.outcome r.block
+abbrev pub block_answer : Result (List ℕ) Refusal → Answer (List ℕ)
+block_answer r = answer (λ b. b) r
 
 -- the block of an answer: zeros beside a refusal
 abbrev pub block_beside : Answer (List ℕ) → List ℕ

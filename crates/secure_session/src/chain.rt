@@ -1,5 +1,7 @@
 // The chain: what a session keeps of the MACs that went both ways. It is made, looked into and moved here and nowhere else: its field is
 // closed to every other file, and those only carry it along.
+#![tactic(auto, unfolding(crate::specs::Chain::first_chain, crate::specs::Chain::chain_in, crate::specs::Chain::chain_out, crate::specs::Chain::send_from, crate::specs::Chain::recv_from, crate::specs::Chain::sent, crate::specs::Chain::received))]
+
 ghost use Rattle.std.specs.Prelude.{◌≡◌};
 ghost use Rattle.secure_session.specs.Chain.{no_chain, first_chain, chain_in, chain_out, with_chain, send_from, recv_from, sent, received};
 
@@ -40,46 +42,44 @@ impl Session {
     pub(crate) fn chained(self, first: [u8; 16]) -> Session
         ensures { result ≡ with_chain self (first_chain first) }
     {
-        let mut s = self;
-        let chain = Chain { value: first };
-        s.chain = chain;
-        s
+        Session {
+            chain: Chain { value: first },
+            ..self
+        }
     }
 
     // Where a MAC that is made starts.
     pub(crate) fn send_from(self) -> [u8; 16]
         ensures { result ≡ send_from self }
     {
-        let c = self.chain;
-        c.value
+        self.chain.value
     }
 
     // Where a MAC that is checked starts.
     pub(crate) fn recv_from(self) -> [u8; 16]
         ensures { result ≡ recv_from self }
     {
-        let c = self.chain;
-        c.value
+        self.chain.value
     }
 
     // After a MAC was made.
     pub(crate) fn sent(self, full: [u8; 16]) -> Session
         ensures { result ≡ sent self full }
     {
-        let mut s = self;
-        let chain = Chain { value: full };
-        s.chain = chain;
-        s
+        Session {
+            chain: Chain { value: full },
+            ..self
+        }
     }
 
     // After a MAC was found right.
     pub(crate) fn received(self, m: ChainMac) -> Session
         ensures { result ≡ received self m.full }
     {
-        let mut s = self;
         let value = m.full;
-        let chain = Chain { value };
-        s.chain = chain;
-        s
+        Session {
+            chain: Chain { value },
+            ..self
+        }
     }
 }

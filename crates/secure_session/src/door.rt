@@ -25,14 +25,16 @@ impl Session {
     pub fn door_out(self) -> SessionFields
         ensures { result ≡ door_out self }
     {
-        let end = self.end;
-        let state = self.state;
-        let scbk = self.scbk;
-        let rnd_a = self.rnd_a;
-        let rnd_b = self.rnd_b;
-        let cuid = self.cuid;
-        let keys = self.keys;
-        let chain = self.chain;
+        let Session {
+            end,
+            state,
+            scbk,
+            rnd_a,
+            rnd_b,
+            cuid,
+            keys,
+            chain,
+        } = self;
         SessionFields {
             end,
             state,
@@ -48,14 +50,16 @@ impl Session {
     pub fn door_in(f: SessionFields) -> Session
         ensures { result ≡ door_in f }
     {
-        let end = f.end;
-        let state = f.state;
-        let scbk = f.scbk;
-        let rnd_a = f.rnd_a;
-        let rnd_b = f.rnd_b;
-        let cuid = f.cuid;
-        let keys = f.keys;
-        let chain = f.chain;
+        let SessionFields {
+            end,
+            state,
+            scbk,
+            rnd_a,
+            rnd_b,
+            cuid,
+            keys,
+            chain,
+        } = f;
         Session {
             end,
             state,

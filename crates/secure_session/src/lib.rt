@@ -8,6 +8,4 @@ mod session;
 
 pub use chain::Chain;
 pub use door::SessionFields;
-pub use session::{
-    BlockAnswer, End, KeysAnswer, Session, State, Stepped, SteppedBlock, end_number, state_number,
-};
+pub use session::{End, Processed, Session, State, Stepped, end_number, state_number};

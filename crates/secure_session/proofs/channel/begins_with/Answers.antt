@@ -1,8 +1,7 @@
 -- `secure_session::channel::begins_with` meets its contract: two numbers are equal where their bytes are.
-use mathlib.Core.Path.{◌≡◌, ap₂, ◌∙◌}
+use mathlib.Core.Path.{◌≡◌}
 use native.Mathlib.Omega.{arith}
 use mir.Syntax.{w8}
-use lib.Dec.{eqb}
 use lib.ListN.{length}
 use borrow.Author.Rules.{rules, elem_Fits}
 use Rattle.secure_session.proofs.Four.{four_begins}
@@ -15,5 +14,5 @@ returns c =
     let f = c.args.m.full in
     let w = c.args.four in
     let n : length f ≡ 16 = g.0.1 in
-    ap₂ eqb c.number-is.ensures c.number-came.ensures
-    ∙ four_begins f w (omega (arith, n)) (search rules) (λ i. (elem_Fits w8 w8 f _ i g.1 tt).fits) (λ i. (elem_Fits w8 w8 w h.0 i h.1.1 tt).fits)
+    four_begins f w (omega (arith, n)) (search rules) (λ i. (elem_Fits w8 w8 f _ i g.1 tt).fits) (λ i. (elem_Fits w8 w8 w h.0 i h.1.1 tt).fits)
+    _ _ c.from_le_bytes.ensures c.from_le_bytes-2.ensures

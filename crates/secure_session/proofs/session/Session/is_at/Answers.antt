@@ -1,14 +1,13 @@
--- `secure_session::session::Session::is_at` meets its contract: the numbers tell ends and states apart.
-use Rattle.secure_session.proofs.Cases.{at-other-end, at-state}
+-- `secure_session::session::Session::is_at` meets its contract: the numbers tell.
+use mathlib.Core.Path.{◌∙◌}
+use Rattle.secure_session.specs.Session.{is_at}
+use Rattle.secure_session.proofs.Marks.{same_end, same_state}
 use Rattle.secure_session.proofs.session.Session.is_at.Goals as goal
 
-pub returns-then-end_number : goal.returns-then-end_number
-returns-then-end_number c =
-    let a = c.args in
-    at-other-end a.end a.state a.self c.end_number.ensures c.end_number-2.ensures c.if-end_number.true
+pub returns-then-eq : goal.returns-then-eq
+unfolding is_at
+returns-then-eq c = rw (← same_end c.args.end c.args.self.end, ← c.eq.ensures, c.if-eq.true) (c.eq-then-eq.ensures ∙ same_state _ _)
 
-pub returns : goal.returns
-returns c =
-    let a = c.args in
-    at-state a.end a.state a.self c.end_number.ensures c.end_number-2.ensures c.if-end_number.false
-    c.state_number.ensures c.state_number-2.ensures
+pub returns-else-eq : goal.returns-else-eq
+unfolding is_at
+returns-else-eq c = rw (← same_end c.args.end c.args.self.end, ← c.eq.ensures, c.if-eq.false)
