@@ -1,96 +1,140 @@
-// What a call is handed, taken out of a case. Beyond its end a case has zeros.
-ghost use Rattle.std.specs.Prelude.{◌≤◌};
+// What a call is handed, taken out of a case from the front on. Beyond its end a case has zeros.
+use crossing::{Bytes4, Bytes8, Bytes16, CMac, CPacket, CToSeal};
+use std::array;
 
-use crossing::{Bytes8, Bytes16};
-
-pub(crate) fn byte(x: &[u8], at: usize) -> u8 {
-    if at < x.len() { x[at] } else { 0 }
+#[derive(Clone, Copy)]
+pub(crate) struct Given<'a> {
+    rest: &'a [u8],
 }
 
-pub(crate) fn flag(x: &[u8], at: usize) -> bool {
-    byte(x, at) != 0
-}
-
-// From a place on.
-pub(crate) fn from(x: &[u8], at: usize) -> &[u8] {
-    if at < x.len() {
-        return &x[at..];
+impl<'a> Given<'a> {
+    pub(crate) fn new(rest: &'a [u8]) -> Self {
+        Given { rest }
     }
-    &x[..0]
-}
 
-pub(crate) fn eight(x: &[u8]) -> Bytes8 {
-    Bytes8 {
-        bytes: [
-            byte(x, 0),
-            byte(x, 1),
-            byte(x, 2),
-            byte(x, 3),
-            byte(x, 4),
-            byte(x, 5),
-            byte(x, 6),
-            byte(x, 7),
-        ],
+    // All that is left.
+    pub(crate) fn rest(self) -> &'a [u8] {
+        self.rest
     }
-}
 
-pub(crate) fn sixteen(x: &[u8]) -> Bytes16 {
-    Bytes16 {
-        bytes: [
-            byte(x, 0),
-            byte(x, 1),
-            byte(x, 2),
-            byte(x, 3),
-            byte(x, 4),
-            byte(x, 5),
-            byte(x, 6),
-            byte(x, 7),
-            byte(x, 8),
-            byte(x, 9),
-            byte(x, 10),
-            byte(x, 11),
-            byte(x, 12),
-            byte(x, 13),
-            byte(x, 14),
-            byte(x, 15),
-        ],
+    // The next bytes; where they run past the end none, and none are left.
+    pub(crate) fn part(&mut self, len: usize) -> &'a [u8] {
+        let (part, rest) = self.rest.split_at_checked(len).unwrap_or((&[], &[]));
+        self.rest = rest;
+        part
+    }
+
+    pub(crate) fn next<T: Stored>(&mut self) -> T {
+        T::taken(self)
+    }
+
+    // A length, which is stored in four bytes.
+    pub(crate) fn len(&mut self) -> usize {
+        let len: u32 = self.next();
+        len as usize
     }
 }
 
-pub(crate) fn wide(x: u8) -> usize
-    ensures { result ≤ 255 }
-{
-    x as usize
+// What a case stores.
+pub(crate) trait Stored {
+    fn taken(given: &mut Given) -> Self;
 }
 
-fn wide_u16(x: u16) -> usize
-    ensures { result ≤ 65535 }
-{
-    x as usize
+impl<const N: usize> Stored for [u8; N] {
+    fn taken(given: &mut Given) -> [u8; N] {
+        let rest = given.rest;
+        given.part(N);
+        array::from_fn(|i| rest.get(i).copied().unwrap_or(0))
+    }
 }
 
-fn wide_u32(x: u32) -> usize
-    ensures { result ≤ 4294967295 }
-{
-    x as usize
+impl Stored for u8 {
+    fn taken(given: &mut Given) -> u8 {
+        let [byte]: [u8; 1] = given.next();
+        byte
+    }
 }
 
-// The number in the two bytes from `at` on, the low one first; 0 where they run past the end.
-pub(crate) fn two(x: &[u8], at: usize) -> usize
-    ensures { result ≤ 65535 }
-{
-    wide_u16(slices::read_u16(x, at))
+impl Stored for bool {
+    fn taken(given: &mut Given) -> bool {
+        let byte: u8 = given.next();
+        byte != 0
+    }
 }
 
-// The same of four bytes.
-pub(crate) fn four(x: &[u8], at: usize) -> usize
-    ensures { result ≤ 4294967295 }
-{
-    wide_u32(slices::read_u32(x, at))
+// The low byte comes first. A number that runs past the end is 0.
+impl Stored for u32 {
+    fn taken(given: &mut Given) -> u32 {
+        given.part(4).try_into().map_or(0, u32::from_le_bytes)
+    }
 }
 
-// Eight bytes: each half as above.
-pub(crate) fn number(x: &[u8], at: usize) -> usize {
-    let low = four(x, at);
-    four(from(x, at), 4) * 4294967296 + low
+// In eight bytes: each half as above.
+impl Stored for usize {
+    fn taken(given: &mut Given) -> usize {
+        let low: u32 = given.next();
+        let high: u32 = given.next();
+        high as usize * 0x1_0000_0000 + low as usize
+    }
+}
+
+impl Stored for Bytes4 {
+    fn taken(given: &mut Given) -> Bytes4 {
+        Bytes4 {
+            bytes: given.next(),
+        }
+    }
+}
+
+impl Stored for Bytes8 {
+    fn taken(given: &mut Given) -> Bytes8 {
+        Bytes8 {
+            bytes: given.next(),
+        }
+    }
+}
+
+impl Stored for Bytes16 {
+    fn taken(given: &mut Given) -> Bytes16 {
+        Bytes16 {
+            bytes: given.next(),
+        }
+    }
+}
+
+impl Stored for CPacket {
+    fn taken(given: &mut Given) -> CPacket {
+        CPacket {
+            addr: given.next(),
+            sqn: given.next(),
+            crc: given.next(),
+            block: given.next(),
+            block_type: given.next(),
+            code: given.next(),
+        }
+    }
+}
+
+impl Stored for CMac {
+    fn taken(given: &mut Given) -> CMac {
+        CMac {
+            given: given.next(),
+            b0: given.next(),
+            b1: given.next(),
+            b2: given.next(),
+            b3: given.next(),
+        }
+    }
+}
+
+impl Stored for CToSeal {
+    fn taken(given: &mut Given) -> CToSeal {
+        CToSeal {
+            addr: given.next(),
+            sqn: given.next(),
+            from_reader: given.next(),
+            encrypt: given.next(),
+            code: given.next(),
+        }
+    }
 }

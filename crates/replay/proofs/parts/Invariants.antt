@@ -1,6 +1,0 @@
--- What is left holds its part.
-use Rattle.std.proofs.Common.{◌≤◌, length}
-use Rattle.replay.proofs.parts.Given as goal
-
-abbrev pub invariant-loop : goal.invariant-loop
-invariant-loop l = l.at ≤ length l.x
