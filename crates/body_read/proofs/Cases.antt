@@ -14,25 +14,18 @@ use Rattle.laws.specs.Answer.{Answer.given, Answer.refused}
 use Rattle.slices.specs.Number.{low_number}
 use Rattle.slices.specs.Place.{part_of}
 use Rattle.slices.proofs.PlaceLaws.{part_in}
-use Rattle.refusal.specs.declared.Refusal.{Refusal}
 use Rattle.body_message.specs.Fields.{span_of, numbers_in, records_of}
-use Rattle.body_message.specs.Message.{Message, Message.nak, Message.raw, Message.keypad, Kind, Kind.NAK, Kind.PDID, Kind.RAW, Kind.KEYPAD, Triple, bytes_for, triple_of, triple_widths, kinds, code, widths, whole_records, follows, message_of}
-use Rattle.body_message.specs.Body.{body_numbers, body_rest, read_as, read_of}
+use Rattle.body_message.specs.Message.{Message, Message.nak, Message.raw, Message.keypad, Kind, Kind.NAK, Kind.PDID, Kind.RAW, Kind.KEYPAD, Triple, bytes_for, triple_of, triple_widths, code, widths, whole_records, follows, message_of}
+use Rattle.body_message.specs.Body.{body_numbers, body_rest, read_as}
 use Rattle.body_message.specs.Lookup.{badge_in, message_badge, message_triple}
-use Rattle.body_read.specs.Reading.{rest_start_of, rest_length, message_in, read_answer}
+use Rattle.body_read.specs.Reading.{rest_start_of, rest_length, message_in}
 use Rattle.body_read.specs.declared.body.Body.{Body}
+use Rattle.body_read.specs.declared.body.DeviceId.{DeviceId}
 use Rattle.body_read.specs.declared.body.Body.TheVariants.{Nak, PdId, PdCap, Raw, Keypad}
-use Rattle.body_read.specs.declared.body.ReadAnswer.{ReadAnswer}
 use Rattle.body_message.proofs.FieldLaws.{value_at, values_at, values_in}
-use Rattle.body_message.proofs.Listed.{Besides, read_unlisted}
+use Rattle.body_message.proofs.BadgeLaws.{no_bits, many-bits, other-bytes, a-number}
+use Rattle.body_message.proofs.Listed.{read-listed, read_unlisted}
 use Rattle.body_message.proofs.OneMessage.{read_good, read_bad}
-
--- a refusal, as it is told
-pub told_bad : (r : ReadAnswer) (k : Kind) (s : List ℕ) → r ≡ Err (Refusal.BadBody (code k)) → refused 19 (code k ∷ []) ≡ read_as k s → read_answer r s ≡ read_as k s
-told_bad r k s e f = ap (λ (x : ReadAnswer). read_answer x s) e ∙ f
-
-pub unlisted : (r : ReadAnswer) (c : ℕ) (s : List ℕ) → r ≡ Err (Refusal.BadBody c) → Besides (Unit {0}) kinds c → read_answer r s ≡ read_of c s
-unlisted r c s e h = ap (λ (x : ReadAnswer). read_answer x s) e ∙ read_unlisted c s h
 
 module _ (k : Kind) (s : List ℕ) where
   values : span_of (widths k) ≤ length s → body_numbers k s ≡ values_at (widths k) s 0
@@ -87,6 +80,21 @@ module _ (k : Kind) (w : ℕ) (bare : widths k ≡ []) (counted : (vs : List ℕ
 pub part_rest : (s : List ℕ) (start n : ℕ) → start ≤ length s → length s - start ≡ n → part_of s start n ≡ drop start s
 part_rest s start n h e = part_in s start n (omega arith) ∙ take_all n (drop start s) (omega (arith, length-drop start s))
 
+-- the device that the bytes of s name, but for its serial number
+abbrev pub device : List ℕ → ℕ → DeviceId
+device s serial =
+    record {
+      vendor1 = get_or s 0 0;
+      vendor2 = get_or s 1 0;
+      vendor3 = get_or s 2 0;
+      model = get_or s 3 0;
+      version = get_or s 4 0;
+      serial = serial;
+      major = get_or s 9 0;
+      minor = get_or s 10 0;
+      build = get_or s 11 0;
+    }
+
 -- ---- the bodies whose numbers do not tell all by themselves
 
 module _ (s : List ℕ) where
@@ -94,7 +102,7 @@ module _ (s : List ℕ) where
   nak-good h = accepted NAK s _ h refl (ap (nak (get_or s 0 0)) (part_rest s 1 (length s - 1) h refl) ∙ simp add-zero)
 
   pub pdid-good : (serial : ℕ) → length s ≡ 12 → serial ≡ low_number (get_or s 5 0 ∷ get_or s 6 0 ∷ get_or s 7 0 ∷ get_or s 8 0 ∷ [])
-      → given (message_in (PdId (get_or s 0 0) (get_or s 1 0) (get_or s 2 0) (get_or s 3 0) (get_or s 4 0) serial (get_or s 9 0) (get_or s 10 0) (get_or s 11 0)) s) ≡ read_as PDID s
+      → given (message_in (PdId (device s serial)) s) ≡ read_as PDID s
   pdid-good serial h e = fixed-good PDID (λ vs n. refl) s _ h (simp (add-zero, e))
 
   module _ (bits : ℕ) (long : 4 ≤ length s) (e : bits ≡ low_number (get_or s 2 0 ∷ get_or s 3 0 ∷ [])) where
@@ -120,6 +128,15 @@ module _ (s : List ℕ) where
     keypad-good h =
         accepted KEYPAD s _ long (eq-eqb (length s - 2) (value_at 1 s 1) (h ∙ sym one))
         (ap (keypad (get_or s 0 0) count) (part_rest s 2 count long h) ∙ simp (add-zero, sym one))
+
+-- ---- by its code
+
+-- each code that is listed has its reader; any other is unlisted
+pub ruleset by_code = (read-listed, read_unlisted)
+
+-- ---- the badge is given by the number of bits, then by the bytes that are there
+
+pub ruleset by_bits = (no_bits, many-bits, other-bytes, a-number)
 
 -- ---- the badge is that of the bytes which a RAW shows
 

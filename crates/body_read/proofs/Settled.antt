@@ -1,16 +1,18 @@
 -- The promises settle the answers: any two that one allows are equal. And the claim over all bodies, of what a caller of `read` holds.
 -- Assumes nothing.
-use mathlib.Core.Path.{◌≡◌, refl, sym, ap, ◌∙◌}
+use Rattle.std.specs.Prelude.{Option, Some, None, Result, Ok}
+use mathlib.Core.Path.{◌≡◌, refl, sym, ◌∙◌}
 use mathlib.Core.Bool.{Bool, true, false, cond}
 use mathlib.Core.List.{List, []}
-use mathlib.Core.Option.{Option, none, some}
+use mathlib.Core.Option as told
+use mathlib.Core.Option.{none, some}
 use Prim.Native.Nat.{ℕ}
 use native.Mathlib.Omega.{arith}
 use lib.ListN.{length, get_or, take, drop}
-use Rattle.laws.specs.Answer.{Answer, Answer.given, Answer.refused}
 use Rattle.laws.specs.Bytes.{Bytes}
 use Rattle.laws.proofs.Answers.{one_reading}
-use Rattle.refusal.proofs.OneReading.{named, told_back}
+use Rattle.refusal.specs.declared.Refusal.{Refusal}
+use Rattle.refusal.proofs.OneReading.{answer_settled}
 use Rattle.slices.specs.Place.{runs_past, part_of}
 use Rattle.body_message.specs.Message as message
 use Rattle.body_message.specs.Message.{Message, Kind, Kind.ACK, Kind.NAK, Kind.PDID, Kind.PDCAP, Kind.LSTATR, Kind.RAW, Kind.KEYPAD, message_kind, message_numbers, message_rest}
@@ -21,9 +23,7 @@ use Rattle.body_read.specs.Lookup.{triple_answer, badge_answer}
 use Rattle.body_read.proofs.Cases.{part_rest}
 use Rattle.body_read.specs.declared.body.Body.{Body}
 use Rattle.body_read.specs.declared.body.Body.TheVariants.{Ack, Nak, PdId, PdCap, LStatR, Raw, Keypad}
-use Rattle.body_read.specs.declared.body.ReadAnswer.{ReadAnswer}
-use Rattle.body_read.specs.declared.lookup.TripleAnswer.{TripleAnswer}
-use Rattle.body_read.specs.declared.badge.BadgeAnswer.{BadgeAnswer}
+use Rattle.body_read.specs.declared.lookup.Triple.{Triple}
 
 -- ---- a reading
 
@@ -31,7 +31,18 @@ use Rattle.body_read.specs.declared.badge.BadgeAnswer.{BadgeAnswer}
 abbrev reading_of : Kind → List ℕ → Body
 reading_of ACK vs = Ack
 reading_of NAK vs = Nak (get_or vs 0 0)
-reading_of PDID vs = PdId (get_or vs 0 0) (get_or vs 1 0) (get_or vs 2 0) (get_or vs 3 0) (get_or vs 4 0) (get_or vs 5 0) (get_or vs 6 0) (get_or vs 7 0) (get_or vs 8 0)
+reading_of PDID vs =
+    PdId (record {
+      vendor1 = get_or vs 0 0;
+      vendor2 = get_or vs 1 0;
+      vendor3 = get_or vs 2 0;
+      model = get_or vs 3 0;
+      version = get_or vs 4 0;
+      serial = get_or vs 5 0;
+      major = get_or vs 6 0;
+      minor = get_or vs 7 0;
+      build = get_or vs 8 0;
+    })
 reading_of PDCAP vs = PdCap
 reading_of LSTATR vs = LStatR (get_or vs 0 0) (get_or vs 1 0)
 reading_of RAW vs = Raw (get_or vs 0 0) (get_or vs 1 0) (get_or vs 2 0)
@@ -40,22 +51,14 @@ reading_of KEYPAD vs = Keypad (get_or vs 0 0) (get_or vs 1 0)
 reading_back : (b : Body) (s : List ℕ) → reading_of (message_kind (message_in b s)) (message_numbers (message_in b s)) ≡ b
 reading_back Ack s = refl
 reading_back (Nak error) s = refl
-reading_back (PdId vendor1 vendor2 vendor3 model version serial major minor build) s = refl
+reading_back (PdId d) s = refl
 reading_back PdCap s = refl
 reading_back (LStatR tamper power) s = refl
 reading_back (Raw reader format bits) s = refl
 reading_back (Keypad reader count) s = refl
 
-abbrev read_from : Answer Message → ReadAnswer
-read_from (given m) = Ok (reading_of (message_kind m) (message_numbers m))
-read_from (refused n vs) = Err (named n vs)
-
-read_back : (s : List ℕ) (r : ReadAnswer) → read_from (read_answer r s) ≡ r
-read_back s (Ok b) = ap Ok (reading_back b s)
-read_back s (Err e) = ap Err (told_back e)
-
-pub read_settled : (s : List ℕ) (r q : ReadAnswer) → read_answer r s ≡ read_answer q s → r ≡ q
-read_settled s = one_reading (λ r. read_answer r s) read_from (read_back s)
+pub read_settled : (s : List ℕ) (r q : Result Body Refusal) → read_answer r s ≡ read_answer q s → r ≡ q
+read_settled s = answer_settled (λ b. message_in b s) (λ m. reading_of (message_kind m) (message_numbers m)) (λ b. reading_back b s)
 
 -- What `read` gives of a payload, with what is looked up there, holds the payload's every byte, and its code.
 pub reading_whole : (c : ℕ) (s : List ℕ) (b : Body) → Bytes s → read_answer (Ok b) s ≡ read_of c s
@@ -77,31 +80,31 @@ pub rest_shown : (c : ℕ) (s : List ℕ) (b : Body) → Bytes s → read_answer
     → part_of s (rest_start_of b) (rest_length b (length s)) ≡ message_rest (message_in b s)
 rest_shown c s Ack h e = no_bytes_there s 0
 rest_shown c s (Nak error) h e = refl
-rest_shown c s (PdId vendor1 vendor2 vendor3 model version serial major minor build) h e = no_bytes_there s 12
+rest_shown c s (PdId d) h e = no_bytes_there s 12
 rest_shown c s PdCap h e =
     part_rest s 0 (length s) (omega arith) (omega arith) ∙ sym (reading_whole c s PdCap h e).0 ∙ after_numbers (message_in PdCap s)
 rest_shown c s (LStatR tamper power) h e = no_bytes_there s 2
 rest_shown c s (Raw reader format bits) h e = refl
 rest_shown c s (Keypad reader count) h e = refl
 
-abbrev triple_back : Option message.Triple → TripleAnswer
+abbrev triple_back : told.Option message.Triple → Option Triple
 triple_back (some x) = Some (record { function = x.function; compliance = x.compliance; number = x.number })
 triple_back none = None
 
-triple_back_lem : (r : TripleAnswer) → triple_back (triple_answer r) ≡ r
+triple_back_lem : (r : Option Triple) → triple_back (triple_answer r) ≡ r
 triple_back_lem (Some x) = refl
 triple_back_lem None = refl
 
-pub triple_settled : (r q : TripleAnswer) → triple_answer r ≡ triple_answer q → r ≡ q
+pub triple_settled : (r q : Option Triple) → triple_answer r ≡ triple_answer q → r ≡ q
 triple_settled = one_reading triple_answer triple_back triple_back_lem
 
-abbrev badge_back : Option ℕ → BadgeAnswer
+abbrev badge_back : told.Option ℕ → Option ℕ
 badge_back (some n) = Some n
 badge_back none = None
 
-badge_back_lem : (r : BadgeAnswer) → badge_back (badge_answer r) ≡ r
+badge_back_lem : (r : Option ℕ) → badge_back (badge_answer r) ≡ r
 badge_back_lem (Some n) = refl
 badge_back_lem None = refl
 
-pub badge_settled : (r q : BadgeAnswer) → badge_answer r ≡ badge_answer q → r ≡ q
+pub badge_settled : (r q : Option ℕ) → badge_answer r ≡ badge_answer q → r ≡ q
 badge_settled = one_reading badge_answer badge_back badge_back_lem

@@ -6,7 +6,7 @@ mod body;
 mod lookup;
 mod reading;
 
-pub use badge::{BadgeAnswer, badge_number};
-pub use body::{Body, ReadAnswer};
-pub use lookup::{Triple, TripleAnswer, rest, triple_at};
+pub use badge::badge_number;
+pub use body::{Body, DeviceId};
+pub use lookup::{Triple, rest, triple_at};
 pub use reading::read;

@@ -1,5 +1,5 @@
 // What has no fixed length, looked up in the payload that was read. Nothing is read past its end.
-ghost use Rattle.std.specs.Prelude.{◌≡◌, ◌-◌, length};
+ghost use Rattle.std.specs.Prelude.{◌≡◌, length};
 ghost use Rattle.slices.specs.Stretch.{stretch_of};
 ghost use Rattle.slices.specs.Place.{part_seen};
 ghost use Rattle.body_message.specs.Lookup.{message_triple};
@@ -14,43 +14,12 @@ fn rest_start(body: Body) -> usize
     ensures { result ≡ rest_start_of body }
 {
     match body {
-        Body::Ack => 0,
-        Body::Nak { error: _ } => 1,
-        Body::PdId {
-            vendor1: _,
-            vendor2: _,
-            vendor3: _,
-            model: _,
-            version: _,
-            serial: _,
-            major: _,
-            minor: _,
-            build: _,
-        } => 12,
-        Body::PdCap => 0,
-        Body::LStatR {
-            tamper: _,
-            power: _,
-        } => 2,
-        Body::Raw {
-            reader: _,
-            format: _,
-            bits: _,
-        } => 4,
-        Body::Keypad {
-            reader: _,
-            count: _,
-        } => 2,
+        Body::Ack | Body::PdCap => 0,
+        Body::Nak { .. } => 1,
+        Body::PdId(_) => 12,
+        Body::LStatR { .. } | Body::Keypad { .. } => 2,
+        Body::Raw { .. } => 4,
     }
-}
-
-fn without_first(n: usize) -> usize
-    ensures { result ≡ n - 1 }
-{
-    if n < 1 {
-        return 0;
-    }
-    n - 1
 }
 
 // How many bytes follow them, in a payload of n.
@@ -58,30 +27,11 @@ fn rest_length(body: Body, n: usize) -> usize
     ensures { result ≡ rest_length body n }
 {
     match body {
-        Body::Ack => 0,
-        Body::Nak { error: _ } => without_first(n),
-        Body::PdId {
-            vendor1: _,
-            vendor2: _,
-            vendor3: _,
-            model: _,
-            version: _,
-            serial: _,
-            major: _,
-            minor: _,
-            build: _,
-        } => 0,
+        Body::Nak { .. } => n.saturating_sub(1),
         Body::PdCap => n,
-        Body::LStatR {
-            tamper: _,
-            power: _,
-        } => 0,
-        Body::Raw {
-            reader: _,
-            format: _,
-            bits,
-        } => bytes_for(bits),
-        Body::Keypad { reader: _, count } => count as usize,
+        Body::Raw { bits, .. } => bytes_for(bits),
+        Body::Keypad { count, .. } => usize::from(count),
+        Body::Ack | Body::PdId(_) | Body::LStatR { .. } => 0,
     }
 }
 
@@ -100,48 +50,17 @@ pub struct Triple {
     pub number: u8,
 }
 
-#[derive(Clone, Copy)]
-pub enum TripleAnswer {
-    Of(Triple),
-    NoTriple,
-}
-
 // Triple i, counted from 0, of a PDCAP; any other body has none.
-pub fn triple_at(body: Body, payload: &[u8], i: usize) -> TripleAnswer
+pub fn triple_at(body: Body, payload: &[u8], i: usize) -> Option<Triple>
     ensures { triple_answer result ≡ message_triple (message_in body payload.now) i }
 {
     match body {
-        Body::Ack => None,
-        Body::Nak { error: _ } => None,
-        Body::PdId {
-            vendor1: _,
-            vendor2: _,
-            vendor3: _,
-            model: _,
-            version: _,
-            serial: _,
-            major: _,
-            minor: _,
-            build: _,
-        } => None,
         Body::PdCap => triple_in(payload, i),
-        Body::LStatR {
-            tamper: _,
-            power: _,
-        } => None,
-        Body::Raw {
-            reader: _,
-            format: _,
-            bits: _,
-        } => None,
-        Body::Keypad {
-            reader: _,
-            count: _,
-        } => None,
+        _ => None,
     }
 }
 
-fn triple_in(payload: &[u8], i: usize) -> TripleAnswer
+fn triple_in(payload: &[u8], i: usize) -> Option<Triple>
     ensures { triple_answer result ≡ message_triple (message_in Body.PdCap payload.now) i }
 {
     if payload.len() / 3 <= i {

@@ -1,131 +1,120 @@
 // Reads a body whole, or refuses it by 19.
-ghost use Rattle.std.specs.Prelude.{◌≡◌, [], ◌∷◌};
-ghost use Rattle.slices.specs.Number.{low_number};
+ghost use Rattle.std.specs.Prelude.{◌≡◌};
 ghost use Rattle.body_message.specs.Message.{Kind, bytes_for};
 ghost use Rattle.body_message.specs.Body.{read_as, read_of};
-ghost use Rattle.body_read.specs.Reading.{read_answer};
+ghost use Rattle.body_read.specs.Reading.{read_answer, body_answer};
 
-use super::body::{Body, ReadAnswer};
+use super::body::{Body, DeviceId};
 use refusal::Refusal;
-use slices::word;
-
-fn bad(code: u8) -> ReadAnswer
-    ensures { result ≡ ReadAnswer.Refused (Refusal.BadBody code) }
-{
-    Err(Refusal::BadBody(code))
-}
-
-// A number of four bytes, the lowest first.
-fn long(b0: u8, b1: u8, b2: u8, b3: u8) -> u32
-    ensures { result ≡ low_number (b0 ∷ b1 ∷ b2 ∷ b3 ∷ []) }
-{
-    (word(b0, b1) as u32) + 65536 * (word(b2, b3) as u32)
-}
 
 // The bytes that so many bits need.
 pub(crate) fn bytes_for(bits: u16) -> usize
     ensures { result ≡ bytes_for bits }
 {
-    ((bits as usize) + 7) / 8
+    usize::from(bits).div_ceil(8)
 }
 
-fn ack(payload: &[u8]) -> ReadAnswer
-    ensures { read_answer result payload.now ≡ read_as Kind.ACK payload.now }
+fn ack(payload: &[u8]) -> Option<Body>
+    ensures { body_answer 0x40 result payload.now ≡ read_as Kind.ACK payload.now }
 {
-    if payload.len() != 0 {
-        return bad(0x40);
+    match payload {
+        [] => Some(Body::Ack),
+        _ => None,
     }
-    Ok(Body::Ack)
 }
 
-fn nak(payload: &[u8]) -> ReadAnswer
-    ensures { read_answer result payload.now ≡ read_as Kind.NAK payload.now }
+fn nak(payload: &[u8]) -> Option<Body>
+    ensures { body_answer 0x41 result payload.now ≡ read_as Kind.NAK payload.now }
 {
-    if payload.len() == 0 {
-        return bad(0x41);
+    match payload {
+        &[error, ..] => Some(Body::Nak { error }),
+        _ => None,
     }
-    Ok(Body::Nak { error: payload[0] })
 }
 
-fn pdid(payload: &[u8]) -> ReadAnswer
-    ensures { read_answer result payload.now ≡ read_as Kind.PDID payload.now }
+fn pdid(payload: &[u8]) -> Option<Body>
+    ensures { body_answer 0x45 result payload.now ≡ read_as Kind.PDID payload.now }
 {
-    if payload.len() != 12 {
-        return bad(0x45);
-    }
-    Ok(Body::PdId {
-        vendor1: payload[0],
-        vendor2: payload[1],
-        vendor3: payload[2],
-        model: payload[3],
-        version: payload[4],
-        serial: long(payload[5], payload[6], payload[7], payload[8]),
-        major: payload[9],
-        minor: payload[10],
-        build: payload[11],
-    })
+    let &[
+        vendor1,
+        vendor2,
+        vendor3,
+        model,
+        version,
+        s0,
+        s1,
+        s2,
+        s3,
+        major,
+        minor,
+        build,
+    ] = payload
+    else {
+        return None;
+    };
+    Some(Body::PdId(DeviceId {
+        vendor1,
+        vendor2,
+        vendor3,
+        model,
+        version,
+        serial: u32::from_le_bytes([s0, s1, s2, s3]),
+        major,
+        minor,
+        build,
+    }))
 }
 
-fn pdcap(payload: &[u8]) -> ReadAnswer
-    ensures { read_answer result payload.now ≡ read_as Kind.PDCAP payload.now }
+fn pdcap(payload: &[u8]) -> Option<Body>
+    ensures { body_answer 0x46 result payload.now ≡ read_as Kind.PDCAP payload.now }
 {
-    if payload.len() < 1 {
-        return bad(0x46);
+    if payload.is_empty() || payload.len() % 3 != 0 {
+        return None;
     }
-    if payload.len() % 3 != 0 {
-        return bad(0x46);
-    }
-    Ok(Body::PdCap)
+    Some(Body::PdCap)
 }
 
-fn lstatr(payload: &[u8]) -> ReadAnswer
-    ensures { read_answer result payload.now ≡ read_as Kind.LSTATR payload.now }
+fn lstatr(payload: &[u8]) -> Option<Body>
+    ensures { body_answer 0x48 result payload.now ≡ read_as Kind.LSTATR payload.now }
 {
-    if payload.len() != 2 {
-        return bad(0x48);
+    match payload {
+        &[tamper, power] => Some(Body::LStatR { tamper, power }),
+        _ => None,
     }
-    Ok(Body::LStatR {
-        tamper: payload[0],
-        power: payload[1],
-    })
 }
 
-fn raw(payload: &[u8]) -> ReadAnswer
-    ensures { read_answer result payload.now ≡ read_as Kind.RAW payload.now }
+fn raw(payload: &[u8]) -> Option<Body>
+    ensures { body_answer 0x50 result payload.now ≡ read_as Kind.RAW payload.now }
 {
-    if payload.len() < 4 {
-        return bad(0x50);
+    let &[reader, format, lo, hi, ref bytes @ ..] = payload else {
+        return None;
+    };
+    let bits = u16::from_le_bytes([lo, hi]);
+    if bytes.len() != bytes_for(bits) {
+        return None;
     }
-    let bits = word(payload[2], payload[3]);
-    if payload.len() - 4 != bytes_for(bits) {
-        return bad(0x50);
-    }
-    Ok(Body::Raw {
-        reader: payload[0],
-        format: payload[1],
+    Some(Body::Raw {
+        reader,
+        format,
         bits,
     })
 }
 
-fn keypad(payload: &[u8]) -> ReadAnswer
-    ensures { read_answer result payload.now ≡ read_as Kind.KEYPAD payload.now }
+fn keypad(payload: &[u8]) -> Option<Body>
+    ensures { body_answer 0x53 result payload.now ≡ read_as Kind.KEYPAD payload.now }
 {
-    if payload.len() < 2 {
-        return bad(0x53);
+    let &[reader, count, ref digits @ ..] = payload else {
+        return None;
+    };
+    if digits.len() != usize::from(count) {
+        return None;
     }
-    let count = payload[1];
-    if payload.len() - 2 != count as usize {
-        return bad(0x53);
-    }
-    Ok(Body::Keypad {
-        reader: payload[0],
-        count,
-    })
+    Some(Body::Keypad { reader, count })
 }
 
-// What the payload of a frame with this code says.
-pub fn read(code: u8, payload: &[u8]) -> ReadAnswer
-    ensures { read_answer result payload.now ≡ read_of code payload.now }
+#[tactic(auto, using(crate::proofs::Cases::by_code))]
+fn body_of(code: u8, payload: &[u8]) -> Option<Body>
+    ensures { body_answer code result payload.now ≡ read_of code payload.now }
 {
     match code {
         0x40 => ack(payload),
@@ -135,6 +124,13 @@ pub fn read(code: u8, payload: &[u8]) -> ReadAnswer
         0x48 => lstatr(payload),
         0x50 => raw(payload),
         0x53 => keypad(payload),
-        _ => bad(code),
+        _ => None,
     }
+}
+
+// What the payload of a frame with this code says.
+pub fn read(code: u8, payload: &[u8]) -> Result<Body, Refusal>
+    ensures { read_answer result payload.now ≡ read_of code payload.now }
+{
+    body_of(code, payload).ok_or(Refusal::BadBody(code))
 }
