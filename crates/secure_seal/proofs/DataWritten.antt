@@ -27,7 +27,7 @@ encrypt-fits : (k v x o : List ℕ) → hidden_len x ≤ length o
 unfolding encrypt_of
 encrypt-fits k v x o h = rw (le-ltb (length o) (hidden_len x) h)
 
-pub hidden_written : (e : Bool) (s : Session) (x o o₂ : List ℕ) (r : Ciphered) → e ≡ true → is_secure s.state ≡ true → Block s.keys.s_enc → Block (send_from s) → Bytes x
+pub hidden_written : (e : Bool) (s : Session) (x o o₂ : List ℕ) (r : Ciphered ℕ) → e ≡ true → is_secure s.state ≡ true → Block s.keys.s_enc → Block (send_from s) → Bytes x
     → length o ≡ data_len_for e x → cipher_told r o₂ ≡ seal_data_of s x o
     → (o₂ ≡ (data_of e s.keys.s_enc (send_from s) x).bytes) × (r.calls ≡ (data_of e s.keys.s_enc (send_from s) x).steps)
 unfolding data_len_for

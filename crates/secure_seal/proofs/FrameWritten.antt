@@ -1,5 +1,6 @@
 -- Head, data, MAC and CRC, written one after the other, are the frame.
 -- Assumes nothing.
+use Rattle.std.specs.Prelude.{Ok}
 use mathlib.Core.Path.{◌≡◌, sym, ap, ap₂, ◌∙◌}
 use mathlib.Core.Bool.{Bool, true, false}
 use mathlib.Core.List.{List, [], ◌∷◌, ◌++◌}
@@ -18,7 +19,6 @@ use Rattle.packet_sums.specs.Crc.{crc_of}
 use Rattle.packet_build.specs.Build.{FrameBlock.scb, body_bytes, tail_bytes, frame_bytes}
 use Rattle.packet_build.proofs.Sizes.{body_length}
 use Rattle.secure_keys.specs.declared.crypto.SessionKeys.{SessionKeys}
-use Rattle.refusal.specs.declared.LengthAnswer.{LengthAnswer}
 use Rattle.secure_cipher.specs.Mac.{mac_calls}
 use Rattle.secure_cipher.proofs.CbcLaws.{steps-hide}
 use Rattle.secure_cipher.proofs.MacLaws.{mac-counted}

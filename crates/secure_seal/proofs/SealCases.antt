@@ -16,7 +16,7 @@ use Rattle.secure_session.specs.Session.{is_secure}
 use Rattle.secure_session.specs.declared.session.Session.{Session}
 use Rattle.secure_seal.specs.Seal.{Asked, total_of, sealed_frame, frame_test, sealing, seal_run, SealDone, after_seal, sealed_on, seal_of, seal_told}
 use Rattle.secure_seal.specs.Parts.{Put, refused_with}
-use Rattle.secure_seal.specs.declared.frame.Sealed.{Sealed}
+use Rattle.secure_session.specs.declared.session.Processed.{Processed}
 
 abbrev seal_done : Answer ℕ → Session → List ℕ → ℕ → SealDone
 seal_done a s o n = record { answer = a; session = s; out = o; steps = n }
@@ -71,18 +71,18 @@ tests_passed q have t g e = holds_given (PassedTests q have) (frame_test q.sqn (
 -- ---- as the code has them: b is its test of the state, a what the tests of the frame answered
 
 module _ (s : Session) (q : Asked) (o : List ℕ) (b : Bool) (eb : b ≡ is_secure s.state) where
-  pub told-not-secure : {r : Sealed} → not b ≡ true → r ≡ refused_with s WrongState → seal_told r o ≡ seal_of s q o
-  told-not-secure h er = ap (λ (x : Sealed). seal_told x o) er ∙ seal_not_secure s q o (sym eb ∙ not-true b h)
+  pub told-not-secure : {r : Processed ℕ} → not b ≡ true → r ≡ refused_with s WrongState → seal_told r o ≡ seal_of s q o
+  told-not-secure h er = ap (λ (x : Processed ℕ). seal_told x o) er ∙ seal_not_secure s q o (sym eb ∙ not-true b h)
 
   module _ (secure : not b ≡ false) {a : Answer ℕ} (ea : a ≡ frame_test q.sqn (total_of q) (length o)) where
     tested : picked s q o a ≡ seal_of s q o
     tested = ap (picked s q o) ea ∙ seal_tested s q o (sym eb ∙ not-false b secure)
 
-    pub told-refused : {r : Sealed} (e : Refusal) → a ≡ refusal_of e → r ≡ refused_with s e → seal_told r o ≡ seal_of s q o
+    pub told-refused : {r : Processed ℕ} (e : Refusal) → a ≡ refusal_of e → r ≡ refused_with s e → seal_told r o ≡ seal_of s q o
     unfolding sealing after_seal
-    told-refused e h er = ap (λ (x : Sealed). seal_told x o) er ∙ ap (picked s q o) (sym h) ∙ tested
+    told-refused e h er = ap (λ (x : Processed ℕ). seal_told x o) er ∙ ap (picked s q o) (sym h) ∙ tested
 
-    pub told-done : (t : ℕ) {r : Sealed} {o₂ : List ℕ} → a ≡ given t → Put s q o o₂ r → seal_told r o₂ ≡ seal_of s q o
+    pub told-done : (t : ℕ) {r : Processed ℕ} {o₂ : List ℕ} → a ≡ given t → Put s q o o₂ r → seal_told r o₂ ≡ seal_of s q o
     unfolding sealing after_seal
     told-done t h p =
         (λ i. seal_done ((p.told ∙ ap given (tests_passed q (length o) t h ea).total) i) (p.moved i) (p.here i) (p.counted i)) ∙ ap (picked s q o) (sym h) ∙ tested

@@ -7,8 +7,6 @@ use Rattle.laws.specs.Bytes.{Bytes, compl}
 use Rattle.laws.specs.Over.{write}
 use Rattle.packet_head.specs.Numbers.{MAX_SQN, SCB_DATA_AT, CODE_LEN, MAC_LEN, CRC_LEN, MAX_LEN}
 use Rattle.packet_head.specs.Header.{Control}
-use Rattle.packet_head.specs.declared.header.Address.{Address}
-use Rattle.packet_head.specs.declared.header.Sqn.{Sqn}
 use Rattle.packet_build.specs.Build.{FrameBlock.scb, FrameParts, body_bytes, frame_bytes}
 use Rattle.secure_keys.specs.declared.crypto.SessionKeys.{SessionKeys}
 use Rattle.refusal.specs.Reading.{length_answer}
@@ -18,9 +16,10 @@ use Rattle.secure_session.specs.Chain.{send_from, sent}
 use Rattle.secure_session.specs.Session.{is_secure}
 use Rattle.secure_session.specs.declared.session.State.{State}
 use Rattle.secure_session.specs.declared.session.Session.{Session}
+use Rattle.secure_session.specs.declared.session.Processed.{Processed}
 use Rattle.secure_seal.specs.declared.frame.Direction.{Direction}
 use Rattle.secure_seal.specs.declared.frame.Direction.TheVariants.{AcuToPd, PdToAcu}
-use Rattle.secure_seal.specs.declared.frame.Sealed.{Sealed}
+use Rattle.secure_seal.specs.declared.frame.ToSeal.{ToSeal}
 
 -- 15 or 17 from the controller, 16 or 18 from the reader
 unfoldable pub type_for : Direction → Bool → ℕ
@@ -50,8 +49,8 @@ pub record Asked : Type 0 where
   pub code : ℕ
   pub payload : List ℕ
 
-abbrev pub asked_of : Address → Sqn → Direction → Bool → ℕ → List ℕ → Asked
-asked_of a n d e c x = record { addr = a.0; sqn = n.0; direction = d; encrypt = e; code = c; payload = x }
+abbrev pub asked_of : ToSeal → List ℕ → Asked
+asked_of w x = record { addr = w.addr.0; sqn = w.sqn.0; direction = w.direction; encrypt = w.encrypt; code = w.code; payload = x }
 
 -- what stands before the data, the block's two bytes and the code behind the head; and behind it, MAC and CRC
 abbrev pub before_data : ℕ
@@ -142,5 +141,5 @@ seal_of s q o = sealed_on s (seal_run s.state s.keys (send_from s) q o)
 
 -- ---- the code's answer, as the paper has it; `o` is the buffer in the end
 
-abbrev pub seal_told : Sealed → List ℕ → SealDone
+abbrev pub seal_told : Processed ℕ → List ℕ → SealDone
 seal_told r o = record { answer = length_answer r.answer; session = r.session; out = o; steps = r.calls }

@@ -14,8 +14,8 @@ use packet_head::{
     Address, CODE_LEN, CRC_LEN, ControlByte, MAC_LEN, MAX_LEN, MAX_SQN, SCB_DATA_AT,
     SCB_HEADER_LEN, SOM, ScsType, Sqn,
 };
-use refusal::{LengthAnswer, Refusal};
-use secure_session::Session;
+use refusal::Refusal;
+use secure_session::{Processed, Session};
 
 // Who sends, as the caller names it.
 #[derive(Clone, Copy)]
@@ -25,35 +25,31 @@ pub enum Direction {
 }
 
 impl Direction {
+    #[tactic(auto, unfolding(crate::specs::Seal::type_for))]
     pub fn scs_for(self, encrypt: bool) -> ScsType
         ensures { type_of result ≡ type_for self encrypt }
     {
-        match self {
-            Direction::AcuToPd => {
-                if encrypt {
-                    ScsType::Scs17
-                } else {
-                    ScsType::Scs15
-                }
-            }
-            Direction::PdToAcu => {
-                if encrypt {
-                    ScsType::Scs18
-                } else {
-                    ScsType::Scs16
-                }
-            }
+        match (self, encrypt) {
+            (Direction::AcuToPd, false) => ScsType::Scs15,
+            (Direction::PdToAcu, false) => ScsType::Scs16,
+            (Direction::AcuToPd, true) => ScsType::Scs17,
+            (Direction::PdToAcu, true) => ScsType::Scs18,
         }
     }
 }
 
-// How long the frame is; how often the cipher was called; the session after it.
+// What is to be sealed, the payload apart.
 #[derive(Clone, Copy)]
-pub struct Sealed {
-    pub answer: LengthAnswer,
-    pub calls: usize,
-    pub session: Session,
+pub struct ToSeal {
+    pub addr: Address,
+    pub sqn: Sqn,
+    pub direction: Direction,
+    pub encrypt: bool,
+    pub code: u8,
 }
+
+// How long the frame is; how often the cipher was called; the session after it.
+pub type Sealed = Processed<usize>;
 
 // What stands before the data, the block's two bytes and the code behind the head; and behind it, MAC and CRC.
 const BEFORE_DATA: usize = SCB_DATA_AT + CODE_LEN;
@@ -83,7 +79,8 @@ fn total_len(encrypt: bool, data: &[u8]) -> usize
 }
 
 // The tests of a frame of total bytes, in the paper's order, for a buffer of `have`.
-fn test(sqn: Sqn, total: usize, have: usize) -> LengthAnswer
+#[tactic(auto, unfolding(crate::specs::Seal::frame_test, laws::specs::Answer::refuse_if))]
+fn test(sqn: Sqn, total: usize, have: usize) -> Result<usize, Refusal>
     ensures { length_answer result ≡ frame_test sqn.0 total have }
 {
     let n = sqn.value();
@@ -103,20 +100,20 @@ fn test(sqn: Sqn, total: usize, have: usize) -> LengthAnswer
 }
 
 // The eight bytes before the data, in a frame of total bytes: the block has no data of its own, and the trailer is a CRC.
-fn put_head(addr: Address, sqn: Sqn, kind: ScsType, code: u8, total: usize, out: &mut [u8])
-    requires { (sqn.0 ≤ MAX_SQN) × (total ≤ MAX_LEN) × (before_data ≤ length out.old) }
-    ensures { out.new ≡ write out.old 0 (body_bytes addr.0 (sealed_control sqn.0) (scb (type_of kind) []) code [] total) }
+fn put_head(w: ToSeal, total: usize, out: &mut [u8])
+    requires { (w.sqn.0 ≤ MAX_SQN) × (total ≤ MAX_LEN) × (before_data ≤ length out.old) }
+    ensures { out.new ≡ write out.old 0 (body_bytes w.addr.0 (sealed_control w.sqn.0) (scb (type_for w.direction w.encrypt) []) w.code [] total) }
 {
     let len = slices::bytes_of_u16(total as u16);
     let head = [
         SOM,
-        addr.as_byte(),
+        w.addr.as_byte(),
         len[0],
         len[1],
-        sqn.value() + FLAGS,
+        w.sqn.value() + FLAGS,
         EMPTY_BLOCK,
-        kind.as_byte(),
-        code,
+        w.direction.scs_for(w.encrypt).as_byte(),
+        w.code,
     ];
     slices::copy(out, 0, &head);
 }
@@ -127,8 +124,7 @@ fn put_data(session: Session, encrypt: bool, data: &[u8], out: &mut [u8]) -> usi
     ensures { (out.new ≡ (data_of encrypt session.keys.s_enc (send_from session) «data».now).bytes) × (result ≡ (data_of encrypt session.keys.s_enc (send_from session) «data».now).steps) }
 {
     if encrypt {
-        let hidden = session.seal_data(data, out);
-        hidden.calls
+        session.seal_data(data, out).calls
     } else {
         slices::copy(out, 0, data);
         0
@@ -150,31 +146,19 @@ fn put_end(full: [u8; 16], end: usize, out: &mut [u8])
 
 // The frame of total bytes at the front of out; how often the cipher was called for all of it, and the session with its chain moved by
 // the frame's MAC.
-fn put_frame(
-    session: Session,
-    total: usize,
-    addr: Address,
-    sqn: Sqn,
-    direction: Direction,
-    encrypt: bool,
-    code: u8,
-    data: &[u8],
-    out: &mut [u8],
-) -> Sealed
-    requires { (is_secure session.state ≡ true) × (sqn.0 ≤ MAX_SQN) × (total ≡ before_data + after_data + data_len_for encrypt «data».now) × (total ≤ MAX_LEN) × (total ≤ length out.old) }
-    ensures { Put session (asked_of addr sqn direction encrypt code «data».now) out.old out.new result }
+fn put_frame(session: Session, total: usize, w: ToSeal, data: &[u8], out: &mut [u8]) -> Sealed
+    requires { (is_secure session.state ≡ true) × (w.sqn.0 ≤ MAX_SQN) × (total ≡ before_data + after_data + data_len_for w.encrypt «data».now) × (total ≤ MAX_LEN) × (total ≤ length out.old) }
+    ensures { Put session (asked_of w «data».now) out.old out.new result }
 {
     let end = total - AFTER_DATA;
-    put_head(addr, sqn, direction.scs_for(encrypt), code, total, out);
-    let hidden = put_data(session, encrypt, data, &mut out[BEFORE_DATA..end]);
+    put_head(w, total, out);
+    let hidden = put_data(session, w.encrypt, data, &mut out[BEFORE_DATA..end]);
     let made = session.mac(&out[..end]);
-    let full = made.block;
-    put_end(full, end, out);
-    let next = made.session;
+    put_end(made.answer.unwrap(), end, out);
     Sealed {
         answer: Ok(total),
         calls: hidden + secure_cipher::mac_calls(end),
-        session: next,
+        session: made.session,
     }
 }
 
@@ -190,25 +174,14 @@ fn refused(session: Session, e: Refusal) -> Sealed
 }
 
 // Seals data into out, and hands the session back with its chain moved by the frame's MAC.
-pub fn seal(
-    session: Session,
-    addr: Address,
-    sqn: Sqn,
-    direction: Direction,
-    encrypt: bool,
-    code: u8,
-    data: &[u8],
-    out: &mut [u8],
-) -> Sealed
-    ensures { seal_told result out.new ≡ seal_of session (asked_of addr sqn direction encrypt code «data».now) out.old }
+pub fn seal(session: Session, w: ToSeal, data: &[u8], out: &mut [u8]) -> Sealed
+    ensures { seal_told result out.new ≡ seal_of session (asked_of w «data».now) out.old }
 {
     if !session.is_secure() {
         return refused(session, Refusal::WrongState);
     }
-    match test(sqn, total_len(encrypt, data), out.len()) {
+    match test(w.sqn, total_len(w.encrypt, data), out.len()) {
+        Ok(total) => put_frame(session, total, w, data, out),
         Err(e) => refused(session, e),
-        Ok(total) => put_frame(
-            session, total, addr, sqn, direction, encrypt, code, data, out,
-        ),
     }
 }

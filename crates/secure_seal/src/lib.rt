@@ -3,4 +3,4 @@
 
 mod frame;
 
-pub use frame::{Direction, Sealed, seal};
+pub use frame::{Direction, Sealed, ToSeal, seal};

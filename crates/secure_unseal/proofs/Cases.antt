@@ -17,7 +17,7 @@ use Rattle.laws.proofs.Lists.{part_length}
 use Rattle.packet_head.specs.Block.{has_mac, is_encrypted}
 use Rattle.packet_parse.specs.Frame.{Fields, type_in, mac_start_of, parse_of}
 use Rattle.refusal.specs.Paper.{refusal_of, number_of, values_of}
-use Rattle.refusal.specs.declared.Outcome.{Outcome}
+use Rattle.std.specs.Prelude.{Ok, Err, ⊤}
 use Rattle.refusal.specs.declared.Refusal.{Refusal}
 use Rattle.secure_cipher.specs.Cbc.{Done, Opening, cipher_stop, decrypt_of, opened_into, wiped}
 use Rattle.secure_keys.specs.declared.crypto.SessionKeys.{SessionKeys}
@@ -30,7 +30,8 @@ use Rattle.secure_session.specs.declared.session.Stepped.{Stepped}
 use Rattle.secure_session.proofs.SecureLaws.{verify-right, verify-wrong-mac}
 use Rattle.secure_unseal.specs.Unseal.{Checked, Place, UnsealRun, unseal_stop, check, open_data, unseal_plain, unseal_opened, unseal_hidden, unseal_parsed, unseal_run, unseal_of, after_unseal, unsealed_on, unseal_told}
 use Rattle.secure_unseal.specs.Parts.{stopped}
-use Rattle.secure_unseal.specs.declared.frame.Unsealed.{Unsealed}
+use Rattle.secure_session.specs.declared.session.Processed.{Processed}
+use Rattle.secure_unseal.specs.declared.frame.PayloadPlace.{PayloadPlace}
 
 -- ---- a choice whose test is known
 
@@ -43,13 +44,13 @@ module _ {A : Type 0} (x y : A) {b : Bool} where
 
 -- ---- a refusal and a success, put on a session
 
-pub stops : {s : Session} {r : Unsealed} {e : Refusal} {n : ℕ} {w : List ℕ} {x : UnsealRun} → r ≡ stopped s e n
+pub stops : {s : Session} {r : Processed PayloadPlace} {e : Refusal} {n : ℕ} {w : List ℕ} {x : UnsealRun} → r ≡ stopped s e n
     → record { answer = refusal_of e; moved = none; work = w; steps = n } ≡ x → unseal_told r w ≡ unsealed_on s x
 unfolding after_unseal
-stops {s} {w = w} h k = ap (λ (y : Unsealed). unseal_told y w) h ∙ ap (unsealed_on s) k
+stops {s} {w = w} h k = ap (λ (y : Processed PayloadPlace). unseal_told y w) h ∙ ap (unsealed_on s) k
 
 -- with the session that a check handed back, t, which is the one it was given
-pub stops_at : {s t : Session} {r : Unsealed} {e : Refusal} {n : ℕ} {w : List ℕ} {x : UnsealRun} → t ≡ s → r ≡ stopped t e n
+pub stops_at : {s t : Session} {r : Processed PayloadPlace} {e : Refusal} {n : ℕ} {w : List ℕ} {x : UnsealRun} → t ≡ s → r ≡ stopped t e n
     → record { answer = refusal_of e; moved = none; work = w; steps = n } ≡ x → unseal_told r w ≡ unsealed_on s x
 stops_at {e = e} {n = n} q h k = stops (h ∙ ap (λ (y : Session). stopped y e n) q) k
 
@@ -67,12 +68,12 @@ four_listed f at h =
     ∙ front_listed (drop at f) 4 (omega (arith, length-drop at f))
 
 -- what `verify` came to
-module _ (s : Session) (secure : is_secure s.state ≡ true) (f : List ℕ) (at : ℕ) (r : Stepped) (e : stepped r ≡ verify_of s (take at f) (take 4 (drop at f))) where
-  pub check-passed : r.outcome ≡ (Ok tt) → ((check s.keys (recv_from s) f at).right ≡ true) × (r.session ≡ received s (check s.keys (recv_from s) f at).full)
+module _ (s : Session) (secure : is_secure s.state ≡ true) (f : List ℕ) (at : ℕ) (r : Stepped ⊤) (e : stepped r ≡ verify_of s (take at f) (take 4 (drop at f))) where
+  pub check-passed : r.answer ≡ Ok tt → ((check s.keys (recv_from s) f at).right ≡ true) × (r.session ≡ received s (check s.keys (recv_from s) f at).full)
   unfolding check
   check-passed h = verify-right s secure (take at f) (take 4 (drop at f)) r e h
 
-  pub check-failed : (x : Refusal) → r.outcome ≡ Err x → ((check s.keys (recv_from s) f at).right ≡ false) × (number_of x ≡ 15) × (values_of x ≡ []) × (r.session ≡ s)
+  pub check-failed : (x : Refusal) → r.answer ≡ Err x → ((check s.keys (recv_from s) f at).right ≡ false) × (number_of x ≡ 15) × (values_of x ≡ []) × (r.session ≡ s)
   unfolding check
   check-failed x h = verify-wrong-mac s secure (take at f) (take 4 (drop at f)) r x e h
 

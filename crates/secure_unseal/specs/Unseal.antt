@@ -1,11 +1,12 @@
 -- Unsealing (docs/RULES.md, 8.3, 8.4 and 9): the MAC's check and the data's opening, two functions that know nothing of each other; a
 -- core that knows no session; and the call on a session.
 -- Assumes nothing.
-use Rattle.std.specs.Prelude.{ℕ, ◌+◌, Bool, true, false, cond, List, [], ◌∷◌, ltb, length, take, drop}
+use Rattle.std.specs.Prelude.{ℕ, ◌+◌, Bool, true, false, cond, List, [], ◌∷◌, ltb, length, take, drop, Result}
 use Rattle.std.proofs.Math.Option.{Option, none, some}
 use Rattle.laws.specs.Answer.{Answer, Answer.given, Answer.refused}
 use Rattle.laws.specs.Bytes.{compl, eql}
-use Rattle.refusal.specs.Paper.{refusal_of}
+use Rattle.refusal.specs.Reading.{answer}
+use Rattle.refusal.specs.declared.Refusal.{Refusal}
 use Rattle.packet_head.specs.Numbers.{MAC_LEN}
 use Rattle.packet_head.specs.Block.{has_mac, is_encrypted}
 use Rattle.packet_parse.specs.Frame.{Fields, type_in, mac_start_of, parse_of}
@@ -16,8 +17,8 @@ use Rattle.secure_session.specs.Chain.{recv_from, received}
 use Rattle.secure_session.specs.Session.{is_secure}
 use Rattle.secure_session.specs.declared.session.State.{State}
 use Rattle.secure_session.specs.declared.session.Session.{Session}
-use Rattle.secure_unseal.specs.declared.frame.PlaceAnswer.{PlaceAnswer}
-use Rattle.secure_unseal.specs.declared.frame.Unsealed.{Unsealed}
+use Rattle.secure_session.specs.declared.session.Processed.{Processed}
+use Rattle.secure_unseal.specs.declared.frame.PayloadPlace.{PayloadPlace}
 
 -- ---- the MAC's check
 
@@ -110,9 +111,11 @@ unseal_of s f w = unsealed_on s (unseal_run s.state s.keys (recv_from s) f w)
 
 -- ---- the code's answer, as the paper has it; `w` is the work buffer in the end
 
-abbrev pub place_answer : PlaceAnswer → Answer Place
-place_answer (PlaceAnswer.Payload in_work start len) = given (record { in_work = in_work; start = start; len = len })
-place_answer (Err e) = refusal_of e
+abbrev pub place : PayloadPlace → Place
+place p = record { in_work = p.in_work; start = p.start; len = p.len }
 
-abbrev pub unseal_told : Unsealed → List ℕ → UnsealDone
+abbrev pub place_answer : Result PayloadPlace Refusal → Answer Place
+place_answer r = answer place r
+
+abbrev pub unseal_told : Processed PayloadPlace → List ℕ → UnsealDone
 unseal_told r w = record { answer = place_answer r.answer; session = r.session; work = w; steps = r.calls }

@@ -12,29 +12,21 @@ ghost use Rattle.secure_unseal.specs.Unseal.{check, open_data, unseal_plain, uns
 ghost use Rattle.secure_unseal.specs.Parts.{stopped};
 
 use packet_head::MAC_LEN;
-use packet_parse::{BlockPart, Parsed, ParsedPacket};
-use refusal::{LengthAnswer, Outcome, Refusal};
+use packet_parse::ParsedPacket;
+use refusal::Refusal;
 use secure_cipher::Ciphered;
-use secure_session::{Session, Stepped};
+use secure_session::{Processed, Session, Stepped};
 
 // Where an opened payload stands: in the work buffer or in the frame.
 #[derive(Clone, Copy)]
-pub enum PlaceAnswer {
-    Payload {
-        in_work: bool,
-        start: usize,
-        len: usize,
-    },
-    Refused(Refusal),
+pub struct PayloadPlace {
+    pub in_work: bool,
+    pub start: usize,
+    pub len: usize,
 }
 
 // The place; how often the cipher was called; the session after it.
-#[derive(Clone, Copy)]
-pub struct Unsealed {
-    pub answer: PlaceAnswer,
-    pub calls: usize,
-    pub session: Session,
-}
+pub type Unsealed = Processed<PayloadPlace>;
 
 // The four bytes of the frame at `at`.
 fn four_at(frame: &[u8], at: usize) -> [u8; MAC_LEN]
@@ -45,7 +37,7 @@ fn four_at(frame: &[u8], at: usize) -> [u8; MAC_LEN]
 }
 
 // The MAC over the frame's bytes before `mac_at`, against the four bytes there.
-fn check(session: Session, frame: &[u8], mac_at: usize) -> Stepped
+fn check(session: Session, frame: &[u8], mac_at: usize) -> Stepped<()>
     requires { mac_at + MAC_LEN ≤ length frame.now }
     ensures { stepped result ≡ verify_of session (take mac_at frame.now) (take MAC_LEN (drop mac_at frame.now)) }
 {
@@ -54,7 +46,13 @@ fn check(session: Session, frame: &[u8], mac_at: usize) -> Stepped
 }
 
 // The frame's encrypted data, opened into the work buffer.
-fn open_data(session: Session, frame: &[u8], at: usize, len: usize, work: &mut [u8]) -> Ciphered
+fn open_data(
+    session: Session,
+    frame: &[u8],
+    at: usize,
+    len: usize,
+    work: &mut [u8],
+) -> Ciphered<usize>
     requires { at + len ≤ length frame.now }
     ensures { cipher_told result work.new ≡ open_data_of session (take len (drop at frame.now)) work.old }
 {
@@ -87,19 +85,17 @@ fn unseal_plain(session: Session, frame: &[u8], p: ParsedPacket, mac_at: usize) 
 {
     let calls = secure_cipher::mac_calls(mac_at);
     let c = check(session, frame, mac_at);
-    let right = c.outcome;
-    let next = c.session;
-    match right {
+    match c.answer {
         Ok(()) => Unsealed {
-            answer: PlaceAnswer::Payload {
+            answer: Ok(PayloadPlace {
                 in_work: false,
                 start: p.data_start,
                 len: p.data_len,
-            },
+            }),
             calls,
-            session: next,
+            session: c.session,
         },
-        Err(e) => stopped(next, e, calls),
+        Err(e) => stopped(c.session, e, calls),
     }
 }
 
@@ -114,34 +110,28 @@ fn unseal_hidden(
     requires { (is_secure session.state ≡ true) × (mac_at + MAC_LEN ≤ length frame.now) × (p.data_start + p.data_len ≤ length frame.now) }
     ensures { unseal_told result work.new ≡ unsealed_on session (unseal_hidden (check session.keys (recv_from session) frame.now mac_at) (open_data session.keys (recv_from session) frame.now (fields p)) (fields p) work.old) }
 {
-    let at = p.data_start;
-    let n = p.data_len;
-    let o = open_data(session, frame, at, n, work);
-    let opened = o.answer;
-    match opened {
-        Ok(len) => {
-            let calls = o.calls + secure_cipher::mac_calls(mac_at);
-            let c = check(session, frame, mac_at);
-            let right = c.outcome;
-            let next = c.session;
-            match right {
-                Ok(()) => Unsealed {
-                    answer: PlaceAnswer::Payload {
-                        in_work: true,
-                        start: 0,
-                        len,
-                    },
-                    calls,
-                    session: next,
-                },
-                Err(e) => {
-                    // what was opened must not stay behind
-                    wipe(work, n);
-                    stopped(next, e, calls)
-                }
-            }
+    let o = open_data(session, frame, p.data_start, p.data_len, work);
+    let len = match o.answer {
+        Ok(len) => len,
+        Err(e) => return stopped(session, e, o.calls),
+    };
+    let calls = o.calls + secure_cipher::mac_calls(mac_at);
+    let c = check(session, frame, mac_at);
+    match c.answer {
+        Ok(()) => Unsealed {
+            answer: Ok(PayloadPlace {
+                in_work: true,
+                start: 0,
+                len,
+            }),
+            calls,
+            session: c.session,
+        },
+        Err(e) => {
+            // what was opened must not stay behind
+            wipe(work, p.data_len);
+            stopped(c.session, e, calls)
         }
-        Err(e) => stopped(session, e, o.calls),
     }
 }
 
@@ -150,26 +140,17 @@ fn unseal_parsed(session: Session, frame: &[u8], p: ParsedPacket, work: &mut [u8
     requires { (is_secure session.state ≡ true) × (parse_of frame.now ≡ given (fields p)) }
     ensures { unseal_told result work.new ≡ unsealed_on session (unseal_parsed session.keys (recv_from session) frame.now (given (fields p)) work.old) }
 {
-    let block = p.block;
-    let mac = p.mac;
-    match block {
-        None => stopped(session, Refusal::NotSecure, 0),
-        BlockPart::At {
-            ty,
-            start: _,
-            len: _,
-        } => {
-            if ty.has_mac() {
-                let mac_at = packet_parse::mac_start(mac);
-                if ty.is_encrypted() {
-                    unseal_hidden(session, frame, p, mac_at, work)
-                } else {
-                    unseal_plain(session, frame, p, mac_at)
-                }
-            } else {
-                stopped(session, Refusal::NotSecure, 0)
-            }
-        }
+    let Some(block) = p.block else {
+        return stopped(session, Refusal::NotSecure, 0);
+    };
+    if !block.ty.has_mac() {
+        return stopped(session, Refusal::NotSecure, 0);
+    }
+    let mac_at = packet_parse::mac_start(p.mac);
+    if block.ty.is_encrypted() {
+        unseal_hidden(session, frame, p, mac_at, work)
+    } else {
+        unseal_plain(session, frame, p, mac_at)
     }
 }
 

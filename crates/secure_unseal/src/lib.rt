@@ -4,5 +4,5 @@
 mod frame;
 mod lookup;
 
-pub use frame::{PlaceAnswer, Unsealed, unseal};
+pub use frame::{PayloadPlace, Unsealed, unseal};
 pub use lookup::{payload, payload_test};

@@ -10,9 +10,9 @@ use Rattle.secure_seal.proofs.frame.put_data.Goals as goal
 
 pub returns-then-encrypt : goal.returns-then-encrypt
 returns-then-encrypt c = let a = c.args in
-    hidden_written a.encrypt a.session a.«data».now a.out.now _ c.seal_data-hidden.result
+    hidden_written a.encrypt a.session a.«data».now a.out.now _ c.seal_data.result
     c.if-encrypt.true c.requires.0 (enc-block a.session c.well_formed.0) (send_block a.session (chain-kept a.session c.well_formed.0))
-    (λ i. (c.type_inv.«data» i).fits) c.requires.1 c.seal_data-hidden.ensures
+    (λ i. (c.type_inv.«data» i).fits) c.requires.1 c.seal_data.ensures
 
 pub returns-else-encrypt : goal.returns-else-encrypt
 returns-else-encrypt c = let a = c.args in

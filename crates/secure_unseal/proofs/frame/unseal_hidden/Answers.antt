@@ -45,34 +45,34 @@ pub wipe-requires : goal.wipe-requires
 wipe-requires c =
     let a = c.args in
     let d = opened a.session a.frame.now a.work.now a.p.data_start a.p.data_len c.requires.0 c.open_data-o.ensures in
-    let r = found-room a.session.keys.s_enc (recv_from a.session) a.frame.now a.p.data_start a.p.data_len a.work.now c.requires.2 d _ (ap length_answer c.in-Of.is) in
+    let r = found-room a.session.keys.s_enc (recv_from a.session) a.frame.now a.p.data_start a.p.data_len a.work.now c.requires.2 d _ (ap length_answer c.in-Ok.is) in
     omega (arith, r, c.open_data-o.auto.work)
 
-pub returns-in-Done : goal.returns-in-Done
-returns-in-Done c =
+pub returns-in-Ok-answer : goal.returns-in-Ok-answer
+returns-in-Ok-answer c =
     let a = c.args in
     let d = opened a.session a.frame.now a.work.now a.p.data_start a.p.data_len c.requires.0 c.open_data-o.ensures in
-    let y = check-passed a.session c.requires.0 a.frame.now a.mac_at c.check-c.result c.check-c.ensures c.in-Done.is in
+    let y = check-passed a.session c.requires.0 a.frame.now a.mac_at c.check-c.result c.check-c.ensures c.in-Ok-answer.is in
     moves a.session _ y.1
-    (hidden-right a.session.keys (recv_from a.session) a.frame.now (fields a.p) a.work.now c.requires.2 d _ _ (ap length_answer c.in-Of.is)
+    (hidden-right a.session.keys (recv_from a.session) a.frame.now (fields a.p) a.work.now c.requires.2 d _ _ (ap length_answer c.in-Ok.is)
     (counted a.session a.frame.now a.mac_at c.requires.1 c.mac_calls.ensures) y.0)
 
-pub returns-in-Refused-right : goal.returns-in-Refused-right
-returns-in-Refused-right c =
+pub returns-in-Err-answer : goal.returns-in-Err-answer
+returns-in-Err-answer c =
     let a = c.args in
     let d = opened a.session a.frame.now a.work.now a.p.data_start a.p.data_len c.requires.0 c.open_data-o.ensures in
-    let y = check-failed a.session c.requires.0 a.frame.now a.mac_at c.check-c.result c.check-c.ensures c.in-Refused-right.e c.in-Refused-right.is in
+    let y = check-failed a.session c.requires.0 a.frame.now a.mac_at c.check-c.result c.check-c.ensures c.in-Err-answer.e c.in-Err-answer.is in
     let f : Bytes a.frame.now = λ i. omega (arith, c.type_inv.frame i) in
-    let z = found-wiped a.session.keys.s_enc (recv_from a.session) a.frame.now a.p.data_start a.p.data_len a.work.now c.requires.2 d _ (ap length_answer c.in-Of.is)
+    let z = found-wiped a.session.keys.s_enc (recv_from a.session) a.frame.now a.p.data_start a.p.data_len a.work.now c.requires.2 d _ (ap length_answer c.in-Ok.is)
     (enc-block a.session c.well_formed.0) (recv_block a.session (chain-kept a.session c.well_formed.0)).size f in
-    stops_at y.3 c.stopped.ensures
-    (hidden-wrong a.session.keys (recv_from a.session) a.frame.now (fields a.p) a.work.now c.requires.2 d _ _ (ap length_answer c.in-Of.is)
+    stops_at y.3 c.stopped-in-Err-answer.ensures
+    (hidden-wrong a.session.keys (recv_from a.session) a.frame.now (fields a.p) a.work.now c.requires.2 d _ _ (ap length_answer c.in-Ok.is)
     (counted a.session a.frame.now a.mac_at c.requires.1 c.mac_calls.ensures) _ _ _ y.1 y.2 (c.wipe.ensures ∙ z) y.0)
 
-pub returns-in-Refused : goal.returns-in-Refused
-returns-in-Refused c =
+pub returns-in-Err : goal.returns-in-Err
+returns-in-Err c =
     let a = c.args in
     let d = opened a.session a.frame.now a.work.now a.p.data_start a.p.data_len c.requires.0 c.open_data-o.ensures in
-    stops c.stopped-in-Refused.ensures
+    stops c.stopped.ensures
     (hidden-no a.session.keys (recv_from a.session) a.frame.now (fields a.p) a.work.now c.requires.2 d
-    (check a.session.keys (recv_from a.session) a.frame.now a.mac_at) _ _ (ap length_answer c.in-Refused.is))
+    (check a.session.keys (recv_from a.session) a.frame.now a.mac_at) _ _ (ap length_answer c.in-Err.is))
