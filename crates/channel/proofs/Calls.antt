@@ -1,6 +1,6 @@
 -- The two calls that hand a frame over: what their callees promised, put together; and that their promises settle them.
 -- Assumes nothing.
-use mathlib.Core.Bool.{Bool, true}
+use mathlib.Core.Bool.{true}
 use mathlib.Core.List.{List, []}
 use mathlib.Core.Path.{◌≡◌, refl, sym, ap, ap₂, ◌∙◌}
 use Prim.Native.Nat.{ℕ, ◌<◌}
@@ -10,48 +10,45 @@ use lib.Seq.{take_all}
 use Rattle.laws.specs.Answer.{Answer, Answer.given, Answer.refused}
 use Rattle.laws.specs.Buffer.{sized, written}
 use Rattle.refusal.specs.Reading.{length_answer}
-use Rattle.refusal.specs.declared.LengthAnswer.{LengthAnswer}
+use Rattle.std.specs.Prelude.{Some, None, Result, Ok, Err}
 use Rattle.refusal.specs.declared.Refusal.{Refusal}
 use Rattle.refusal.proofs.OneReading.{length_settled}
 use Rattle.packet_head.specs.Header.{Control, control}
 use Rattle.packet_head.specs.Block.{type_of}
-use Rattle.packet_head.specs.declared.header.Address.{Address}
 use Rattle.packet_head.specs.declared.header.ControlByte.{ControlByte}
-use Rattle.packet_head.specs.declared.header.Sqn.{Sqn}
-use Rattle.packet_head.specs.declared.scb.ScsType.{ScsType}
 use Rattle.packet_parse.specs.Frame.{Fields, parse_of}
 use Rattle.packet_build.specs.Build.{FrameBlock.scb, FrameParts, build_of, parts_given}
-use Rattle.packet_build.specs.declared.codec.BuildBlock.{BuildBlock}
-use Rattle.packet_build.specs.declared.codec.GivenMac.{GivenMac}
-use Rattle.packet_view.specs.View.{Span, Shown, places_of, places_told, bytes_at, data_in, payload_of}
+use Rattle.packet_view.specs.View.{Span, span, Shown, places_of, places_told, bytes_at, data_in, payload_of}
 use Rattle.packet_view.specs.declared.parts.Places.{Places}
+use Rattle.packet_view.specs.declared.parts.Span as parts
 use Rattle.secure_session.specs.declared.session.Session.{Session}
 use Rattle.secure_seal.specs.Seal.{SealDone, seal_of, seal_told}
-use Rattle.secure_seal.specs.declared.frame.Sealed.{Sealed}
+use Rattle.secure_session.specs.declared.session.Processed.{Processed}
 use Rattle.secure_unseal.specs.Unseal.{UnsealDone, unseal_of, unseal_told}
-use Rattle.secure_unseal.specs.declared.frame.Unsealed.{Unsealed}
+use Rattle.secure_unseal.specs.declared.frame.PayloadPlace.{PayloadPlace}
 use Rattle.secure_unseal.proofs.Settled.{place_settled}
 use Rattle.channel.specs.Carried.{Wire, wire_parts, on_line, Carriage, carriage, wire_of, carriage_told}
 use Rattle.channel.specs.Talk.{Send, asked_in, showing, Moved, transfer, transfer_told}
 use Rattle.channel.specs.declared.frames.Transferred.{Transferred}
+use Rattle.channel.specs.declared.messages.ToCarry.{ToCarry}
 use Rattle.channel.specs.declared.messages.CarriedMessage.{CarriedMessage}
 
 -- ---- what is on the line
 
-pub line_of : (x : LengthAnswer) (n : ℕ) (o : List ℕ) → x ≡ Ok n → take n o ≡ on_line (length_answer x) o
+pub line_of : (x : Result ℕ Refusal) (n : ℕ) (o : List ℕ) → x ≡ Ok n → take n o ≡ on_line (length_answer x) o
 unfolding on_line
-line_of x n o e = ap (λ (y : LengthAnswer). on_line (length_answer y) o) (sym e)
+line_of x n o e = ap (λ (y : Result ℕ Refusal). on_line (length_answer y) o) (sym e)
 
-pub line_whole : (x : LengthAnswer) (n : ℕ) (o : List ℕ) → x ≡ Ok n → length o < n → o ≡ on_line (length_answer x) o
+pub line_whole : (x : Result ℕ Refusal) (n : ℕ) (o : List ℕ) → x ≡ Ok n → length o < n → o ≡ on_line (length_answer x) o
 line_whole x n o e h = sym (take_all n o (omega arith)) ∙ line_of x n o e
 
-pub line_none : (x : LengthAnswer) (e : Refusal) (o : List ℕ) → x ≡ Err e → take 0 o ≡ on_line (length_answer x) o
+pub line_none : (x : Result ℕ Refusal) (e : Refusal) (o : List ℕ) → x ≡ Err e → take 0 o ≡ on_line (length_answer x) o
 unfolding on_line
-line_none x e o p = ap (λ (y : LengthAnswer). on_line (length_answer y) o) (sym p)
+line_none x e o p = ap (λ (y : Result ℕ Refusal). on_line (length_answer y) o) (sym p)
 
 -- ---- a sealed frame
 
-module _ (from to : Session) (s : Send) (x : Sealed) (u : Unsealed) (o w f : List ℕ) where
+module _ (from to : Session) (s : Send) (x : Processed ℕ) (u : Processed PayloadPlace) (o w f : List ℕ) where
   -- what the peer's call makes of it
   abbrev atPeer : UnsealDone → Moved
   atPeer d = record {
@@ -105,9 +102,9 @@ transfer_settled r s o p w x e = (
 -- ---- a message of the handshake
 
 -- what the frame of a message is made of is what `build` is given, with no MAC
-pub wire_given : (ty : ScsType) (a : Address) (n : Sqn) (c : Bool) (l : List ℕ) (k : ℕ) (o x : List ℕ) (ctrl : ControlByte) → control ctrl ≡ record { sqn = n.0; crc = c; block = true }
-    → parts_given (record { addr = a; ctrl = ctrl; block = Some ty; code = k }) l x None ≡ wire_parts (type_of ty) (wire_of a n c l k o) x
-wire_given ty a n c l k o x ctrl e = ap (λ (t : Control). record { addr = a.0; ctrl = t; block = scb (type_of ty) l; code = k; «data» = x; mac = [] }) e
+pub wire_given : (w : ToCarry) (l o x : List ℕ) (ctrl : ControlByte) → control ctrl ≡ record { sqn = w.sqn.0; crc = w.use_crc; block = true }
+    → parts_given (record { addr = w.addr; ctrl = ctrl; block = Some w.ty; code = w.code }) l x None ≡ wire_parts (type_of w.ty) (wire_of w l o) x
+wire_given w l o x ctrl e = ap (λ (t : Control). record { addr = w.addr.0; ctrl = t; block = scb (type_of w.ty) l; code = w.code; «data» = x; mac = [] }) e
 
 read_there : (f : List ℕ) (a : Answer Fields) → take (places_of a).payload.len (drop (places_of a).payload.at f) ≡ bytes_at f data_in a
 unfolding places_of
@@ -118,22 +115,22 @@ pub payload_there : (f : List ℕ) → take (places_of (parse_of f)).payload.len
 unfolding payload_of
 payload_there f = read_there f (parse_of f)
 
-module _ (ty : ℕ) (w : Wire) (x : List ℕ) (q : FrameParts) (r : LengthAnswer) (p : Places) (o f : List ℕ) (Given-eq : q ≡ wire_parts ty w x) where
+module _ (ty : ℕ) (w : Wire) (x : List ℕ) (q : FrameParts) (r : Result ℕ Refusal) (p : Result Places Refusal) (t : parts.Span) (o f : List ℕ) (Given-eq : q ≡ wire_parts ty w x) where
   pub carried-as : length_answer r ≡ sized (build_of q (length w.out)) → o ≡ written w.out (build_of q (length w.out))
-      → f ≡ on_line (length_answer r) o → places_told p ≡ places_of (parse_of f)
-      → carriage_told (record { sent = r; start = p.data_at; len = p.data_len }) o ≡ carriage ty w x
+      → f ≡ on_line (length_answer r) o → places_told p ≡ places_of (parse_of f) → span t ≡ (places_told p).payload
+      → carriage_told (record { sent = r; place = t }) o ≡ carriage ty w x
   unfolding carriage
-  carried-as hr ho hf hp =
+  carried-as hr ho hf hp ht =
       let b : build_of q (length w.out) ≡ build_of (wire_parts ty w x) (length w.out) = ap (λ (t : FrameParts). build_of t (length w.out)) Given-eq in
       let r₁ = hr ∙ ap sized b in
       let o₁ = ho ∙ ap (written w.out) b in
       let l₁ = ap₂ on_line r₁ o₁ in
-      let p₁ = ap (λ (s : Shown). s.payload) hp ∙ ap (λ (l : List ℕ). (places_of (parse_of l)).payload) (hf ∙ l₁) in
+      let p₁ = ht ∙ ap (λ (s : Shown). s.payload) hp ∙ ap (λ (l : List ℕ). (places_of (parse_of l)).payload) (hf ∙ l₁) in
       let x₁ = ap₂ (λ (l : List ℕ) (t : Span). take t.len (drop t.at l)) l₁ p₁ ∙ payload_there _ in
       (λ i. record { sent = r₁ i; out = o₁ i; place = p₁ i; read = x₁ i })
 
 pub carriage_settled : (r s : CarriedMessage) (o p : List ℕ) → carriage_told r o ≡ carriage_told s p → (r ≡ s) × (o ≡ p)
 carriage_settled r s o p e = (
-  λ i. record { sent = length_settled r.sent s.sent (ap (λ (c : Carriage). c.sent) e) i; start = (e i).place.at; len = (e i).place.len },
+  λ i. record { sent = length_settled r.sent s.sent (ap (λ (c : Carriage). c.sent) e) i; place = record { at = (e i).place.at; len = (e i).place.len } },
   ap (λ (c : Carriage). c.out) e,
 )

@@ -5,13 +5,12 @@ use Rattle.std.specs.Borrow.{Bor}
 use Rattle.laws.specs.Answer.{Answer, Answer.given, Answer.refused}
 use Rattle.laws.specs.Buffer.{sized, written}
 use Rattle.packet_head.specs.Numbers.{MAX_SQN, MAX_SCB_DATA}
-use Rattle.packet_head.specs.declared.header.Address.{Address}
-use Rattle.packet_head.specs.declared.header.Sqn.{Sqn}
 use Rattle.packet_parse.specs.Frame.{parse_of}
 use Rattle.packet_build.specs.Build.{FrameBlock.scb, FrameParts, FrameSizes, total_len, build_of}
 use Rattle.slices.specs.Stretch.{Stretch, stretch_in}
-use Rattle.packet_view.specs.View.{Span, places_of, payload_of}
+use Rattle.packet_view.specs.View.{Span, span, places_of, payload_of}
 use Rattle.refusal.specs.Reading.{length_answer}
+use Rattle.channel.specs.declared.messages.ToCarry.{ToCarry}
 use Rattle.channel.specs.declared.messages.CarriedMessage.{CarriedMessage}
 
 -- how its sender frames it: any address, sequence number, trailer, block data and code, and the buffer that it is built into
@@ -65,8 +64,8 @@ pub record WireFits (w : Wire) (n : ℕ) : Type 0 where
 
 -- ---- the code's kinds, as the paper has them; `o` is the buffer in the end
 
-abbrev pub wire_of : Address → Sqn → Bool → List ℕ → ℕ → List ℕ → Wire
-wire_of a n c b k o = record { addr = a.0; sqn = n.0; use_crc = c; block = b; code = k; out = o }
+abbrev pub wire_of : ToCarry → List ℕ → List ℕ → Wire
+wire_of w b o = record { addr = w.addr.0; sqn = w.sqn.0; use_crc = w.use_crc; block = b; code = w.code; out = o }
 
 -- the message is read at its place in what is on the line
 abbrev pub carriage_told : CarriedMessage → List ℕ → Carriage
@@ -74,6 +73,6 @@ carriage_told r o =
     record {
       sent = length_answer r.sent;
       out = o;
-      place = record { at = r.start; len = r.len };
-      read = take r.len (drop r.start (on_line (length_answer r.sent) o));
+      place = span r.place;
+      read = take r.place.len (drop r.place.at (on_line (length_answer r.sent) o));
     }

@@ -10,10 +10,9 @@ use Rattle.secure_seal.specs.declared.frame.Direction.TheVariants.{AcuToPd, PdTo
 use Rattle.secure_seal.specs.Seal.{Asked, seal_of}
 use Rattle.secure_unseal.specs.Unseal.{Place, unseal_of, place_answer}
 use Rattle.secure_unseal.specs.Lookup.{payload_shown}
-use Rattle.packet_head.specs.declared.header.Address.{Address}
-use Rattle.packet_head.specs.declared.header.Sqn.{Sqn}
 use Rattle.refusal.specs.Reading.{length_answer}
 use Rattle.channel.specs.Carried.{on_line}
+use Rattle.channel.specs.declared.frames.ToTransfer.{ToTransfer}
 use Rattle.channel.specs.declared.frames.Transferred.{Transferred}
 
 -- one frame of a conversation: who sends, what, and the buffers: `out` at the sender, `work` at the peer
@@ -97,8 +96,8 @@ talk c r (s ∷ ss) =
 
 -- ---- the code's kinds, as the paper has them; `o` and `w` are the buffers in the end
 
-abbrev pub send_of : End → Address → Sqn → Bool → ℕ → List ℕ → List ℕ → List ℕ → Send
-send_of e a n h c x o w = record { who = e; addr = a.0; sqn = n.0; code = c; encrypt = h; payload = x; out = o; work = w }
+abbrev pub send_of : ToTransfer → List ℕ → List ℕ → List ℕ → Send
+send_of t x o w = record { who = t.who; addr = t.addr.0; sqn = t.sqn.0; code = t.code; encrypt = t.encrypt; payload = x; out = o; work = w }
 
 abbrev pub transfer_told : Transferred → List ℕ → List ℕ → Moved
 transfer_told r o w =

@@ -4,17 +4,27 @@ ghost use Rattle.channel.specs.Talk.{direction_of, send_of, transfer, transfer_t
 
 use super::line::on_line;
 use packet_head::{Address, Sqn};
-use refusal::LengthAnswer;
-use secure_seal::Direction;
+use refusal::Refusal;
+use secure_seal::{Direction, ToSeal};
 use secure_session::{End, Session};
-use secure_unseal::PlaceAnswer;
+use secure_unseal::PayloadPlace;
+
+// Who sends what, the payload apart.
+#[derive(Clone, Copy)]
+pub struct ToTransfer {
+    pub who: End,
+    pub addr: Address,
+    pub sqn: Sqn,
+    pub encrypt: bool,
+    pub code: u8,
+}
 
 // What the seal answered at the sender and the unseal at the peer, the cipher calls of each, and both sessions after it.
 #[derive(Clone, Copy)]
 pub struct Transferred {
-    pub sealed: LengthAnswer,
+    pub sealed: Result<usize, Refusal>,
     pub seal_calls: usize,
-    pub opened: PlaceAnswer,
+    pub opened: Result<PayloadPlace, Refusal>,
     pub open_calls: usize,
     pub from: Session,
     pub to: Session,
@@ -34,30 +44,28 @@ fn direction_of(who: End) -> Direction
 pub fn transfer(
     from: Session,
     to: Session,
-    who: End,
-    addr: Address,
-    sqn: Sqn,
-    encrypt: bool,
-    code: u8,
+    w: ToTransfer,
     payload: &[u8],
     out: &mut [u8],
     work: &mut [u8],
 ) -> Transferred
-    ensures { transfer_told result out.new work.new ≡ transfer from to (send_of who addr sqn encrypt code payload.now out.old work.old) }
+    ensures { transfer_told result out.new work.new ≡ transfer from to (send_of w payload.now out.old work.old) }
 {
-    let direction = direction_of(who);
-    let s = secure_seal::seal(from, addr, sqn, direction, encrypt, code, payload, out);
-    let sealed = s.answer;
-    let u = secure_unseal::unseal(to, on_line(out, sealed), work);
-    let opened = u.answer;
-    let sender = s.session;
-    let peer = u.session;
+    let asked = ToSeal {
+        addr: w.addr,
+        sqn: w.sqn,
+        direction: direction_of(w.who),
+        encrypt: w.encrypt,
+        code: w.code,
+    };
+    let s = secure_seal::seal(from, asked, payload, out);
+    let u = secure_unseal::unseal(to, on_line(out, s.answer), work);
     Transferred {
-        sealed,
+        sealed: s.answer,
         seal_calls: s.calls,
-        opened,
+        opened: u.answer,
         open_calls: u.calls,
-        from: sender,
-        to: peer,
+        from: s.session,
+        to: u.session,
     }
 }

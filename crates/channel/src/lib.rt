@@ -6,6 +6,6 @@ mod frames;
 mod line;
 mod messages;
 
-pub use frames::{Transferred, transfer};
+pub use frames::{ToTransfer, Transferred, transfer};
 pub use line::on_line;
-pub use messages::{CarriedMessage, carry};
+pub use messages::{CarriedMessage, ToCarry, carry};

@@ -4,10 +4,10 @@ ghost use Rattle.slices.specs.Stretch.{stretch_of};
 ghost use Rattle.refusal.specs.Reading.{length_answer};
 ghost use Rattle.channel.specs.Carried.{line_seen};
 
-use refusal::LengthAnswer;
+use refusal::Refusal;
 
 // As many bytes of the buffer as the call answered, all of them where it has fewer, and none after a refusal.
-pub fn on_line(out: &[u8], answer: LengthAnswer) -> &[u8]
+pub fn on_line(out: &[u8], answer: Result<usize, Refusal>) -> &[u8]
     ensures { stretch_of result ≡ line_seen (length_answer answer) out.entry }
 {
     match answer {

@@ -15,12 +15,12 @@ from_front s e = λ i. ((s.ref_ptr.0, sym (zero-add s.ref_ptr.1) i), e i)
 
 pub returns-then-n-out : goal.returns-then-n-out
 returns-then-n-out c = let a = c.args in
-    from_front a.out (line_of a.answer _ a.out.now c.in-Of.is)
+    from_front a.out (line_of a.answer _ a.out.now c.in-Ok.is)
 
 pub returns-else-n-out : goal.returns-else-n-out
 returns-else-n-out c = let a = c.args in
-    from_front a.out (line_whole a.answer _ a.out.now c.in-Of.is (omega arith))
+    from_front a.out (line_whole a.answer _ a.out.now c.in-Ok.is (omega arith))
 
-pub returns-in-Refused : goal.returns-in-Refused
-returns-in-Refused c = let a = c.args in
-    from_front a.out (line_none a.answer _ a.out.now c.in-Refused.is)
+pub returns-in-Err : goal.returns-in-Err
+returns-in-Err c = let a = c.args in
+    from_front a.out (line_none a.answer _ a.out.now c.in-Err.is)

@@ -6,10 +6,12 @@ use Rattle.slices.proofs.Stretches.{same_bytes}
 use Rattle.channel.proofs.messages.carry.Goals as goal
 
 pub returns : goal.returns
-returns c = let a = c.args in
-    carried-as (type_of a.ty) (wire_of a.addr a.sqn a.use_crc a.block.now a.code a.out.now) a.message.now _ c.build-sent.result c.places_in-p.result _ _
-    (wire_given a.ty a.addr a.sqn a.use_crc a.block.now a.code a.out.now a.message.now c.new-ctrl.result c.new-ctrl.ensures)
+returns c =
+    let a = c.args in
+    carried-as (type_of a.w.ty) (wire_of a.w a.block.now a.out.now) a.message.now _ c.build-sent.result c.places_in-read.result c.payload_place.result _ _
+    (wire_given a.w a.block.now a.out.now a.message.now c.new.result c.new.ensures)
     c.build-sent.ensures.result_value
     c.build-sent.ensures.out_after
     (same_bytes c.on_line.result c.on_line.ensures)
-    c.places_in-p.ensures
+    c.places_in-read.ensures
+    c.payload_place.ensures
