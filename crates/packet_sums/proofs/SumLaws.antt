@@ -1,6 +1,6 @@
 -- The sum of bytes: what a loop from the front has left, and lists joined.
 -- Assumes nothing.
-use Rattle.std.proofs.Common.{◌≡◌, ℕ, ◌+◌, ◌%◌, ◌<◌, List, [], ◌∷◌, ◌++◌, length, get_or, drop, sym, refl, ap, ◌∙◌, zero-add, arith}
+use Rattle.std.proofs.Common.{◌≡◌, ℕ, ◌+◌, ◌%◌, ◌<◌, ◌≤◌, List, [], ◌∷◌, ◌++◌, length, get_or, drop, drop_of_length-le, sym, refl, ap, ◌∙◌, zero-add, arith}
 use Rattle.laws.proofs.Lists.{drop_next}
 use Rattle.packet_sums.specs.Checksum.{sum_of, checksum_of}
 
@@ -29,3 +29,9 @@ checksum_closes s = omega arith
 pub checksum_only : (s : List ℕ) (n : ℕ) → n < 256 → (sum_of s + n) % 256 ≡ 0 → n ≡ checksum_of s
 unfolding checksum_of
 checksum_only s n h e = omega arith
+
+pub sum_past : (s : List ℕ) (i : ℕ) → length s ≤ i → sum_of (drop i s) ≡ 0
+sum_past s i h = ap sum_of (drop_of_length-le s {i = i} h) ∙ sum_nil
+
+-- what a loop over the bytes needs
+pub ruleset summing = (sum_drop, sum_past)

@@ -1,10 +1,12 @@
 -- Bytes as one number: parts put together, bounds, and the CRC of the number's bytes.
 -- Assumes nothing.
-use Rattle.std.proofs.Common.{◌≡◌, ℕ, zero, suc, ◌+◌, ◌*◌, ◌/◌, ◌%◌, ◌^◌, ◌<◌, ◌≤◌, List, [], ◌∷◌, length, get_or, take, drop, sym, refl, ap, ◌∙◌, ap₂, add-zero, add-suc, mul_assoc, add-mul, suc-add, arith, drop-cons, pow-add, shl_lt, shl_exact}
+use Rattle.std.proofs.Common.{◌≡◌, ℕ, zero, suc, ◌+◌, ◌*◌, ◌/◌, ◌%◌, ◌^◌, ◌<◌, List, [], ◌∷◌, length, get_or, take, drop, sym, refl, ap, ◌∙◌, ap₂, add-zero, add-suc, suc-add, arith, pow-add, shl_exact, ◌++◌, subst, drop-drop, lit≤, zero-mul, suc-mul, add_comm}
+use native.Mathlib.Numerals.{unary_clauses}
+use Rattle.laws.proofs.Listed.{all_listed}
+use Rattle.std.specs.Int.{w16, w64, from_be_bytes}
+use Rattle.std.specs.Simd.{first_chunks}
 use lib.Bits.{bit_or, bit_xor, xor_shr, xor_mod, or_shifted}
 use Rattle.laws.specs.Bytes.{Bytes}
-use Rattle.laws.specs.Table.{from}
-use Rattle.laws.proofs.Lists.{drop_next}
 use Rattle.packet_sums.specs.Crc.{crc_byte, crc_from}
 use Rattle.packet_sums.specs.Word.{word_from, bytes_of, crc_word}
 use Rattle.packet_sums.proofs.Linear.{Linear, linear_zero}
@@ -20,30 +22,44 @@ pub word_cons : (a b : ℕ) (s : List ℕ) → word_from a (b ∷ s) ≡ word_fr
 unfolding word_from
 word_cons a b s = refl
 
--- ---- parts of a list of bytes
+pub word-append : (a : ℕ) (s t : List ℕ) → word_from a (s ++ t) ≡ word_from (word_from a s) t
+unfolding word_from
+word-append a [] t = refl
+word-append a (b ∷ s) t = word-append (a * 256 + b) s t
 
-rest_read : (s : List ℕ) (i j n : ℕ) → i + j + n ≤ length s → take n (drop (i + j) s) ≡ from (λ k. get_or s (i + k) 0) j n
-rest_read s i j zero h = refl
-rest_read s i j (suc n) h =
-    ap (take (suc n)) (drop-cons s (i + j) 0 (omega arith))
-    ∙ ap (λ (l : List ℕ). get_or s (i + j) 0 ∷ l) (ap (λ (k : ℕ). take n (drop k s)) (sym (add-suc i j)) ∙ rest_read s i (suc j) n (omega arith))
+pub word_lt : (s : List ℕ) (a k : ℕ) → Bytes s → a < 2 ^ k → word_from a s < 2 ^ (k + 8 * length s)
+unfolding word_from
+word_lt [] a k hb h = simp unary_clauses h
+word_lt (b ∷ s) a k hb h =
+    let low = hb 0 in
+    let e : k + 8 * length (b ∷ s) ≡ k + 8 + 8 * length s = omega arith in
+    subst (λ (n : ℕ). word_from (a * 256 + b) s < 2 ^ n) (sym e) (word_lt s (a * 256 + b) (k + 8) (λ i. hb (suc i)) (omega (arith, pow-add 2 k 8)))
 
--- the bytes that are read one by one
-pub part_read : (s : List ℕ) (i n : ℕ) → i + suc n ≤ length s → take (suc n) (drop i s) ≡ get_or s i 0 ∷ from (λ k. get_or s (i + k) 0) 1 n
-part_read s i n h =
-    ap (take (suc n)) (drop_next s i (omega arith)) ∙ ap (λ (l : List ℕ). get_or s i 0 ∷ l) (rest_read s i 1 n (omega arith))
+-- two bytes as the library reads them, put in below what stands above them
+word_pair : (a : ℕ) (s : List ℕ) → length s ≡ 2 → word_from a s ≡ a * 65536 + from_be_bytes w16 s
+unfolding word_from
+word_pair a [] e = absurd (omega arith)
+word_pair a (b ∷ []) e = absurd (omega arith)
+word_pair a (b ∷ c ∷ []) e = omega arith
+word_pair a (b ∷ c ∷ d ∷ s) e = absurd (omega arith)
 
-pub word_same : (a : ℕ) {s t : List ℕ} {w : ℕ} → s ≡ t → w ≡ word_from a t → w ≡ word_from a s
-word_same a f e = e ∙ ap (word_from a) (sym f)
+pub pair_below : (a p : ℕ) (s : List ℕ) → a < 2 ^ 48 → p < 65536 → p ≡ from_be_bytes w16 s → length s ≡ 2 → bit_or (a * 65536 % 2 ^ 64) p ≡ word_from a s
+pair_below a p s ha hp e h =
+    ap (λ (n : ℕ). bit_or n p) (shl_exact 48 16 64 ha (lit≤ tt)) ∙ or_shifted a 16 p hp ∙ ap (λ (n : ℕ). a * 65536 + n) e ∙ sym (word_pair a s h)
 
--- a byte put in below what stands above it
-pub or_next : {X : ℕ} (k x b : ℕ) → b < 256 → 8 + k ≤ 64 → X ≡ x * 2 ^ (8 + k) → bit_or X (b * 2 ^ k % 2 ^ 64) ≡ (x * 256 + b) * 2 ^ k
-or_next {X} k x b hb hk e =
-    ap₂ bit_or e (shl_exact 8 k 64 hb hk) ∙ or_shifted x (8 + k) (b * 2 ^ k) (shl_lt 8 k hb)
-    ∙ sym (add-mul (x * 256) b (2 ^ k) ∙ ap (λ (n : ℕ). n + b * 2 ^ k) (mul_assoc x 256 (2 ^ k) ∙ ap (λ (n : ℕ). x * n) (sym (pow-add 2 8 k))))
+-- eight bytes
+pub word_eight : (s : List ℕ) → length s ≡ 8 → from_be_bytes w64 s ≡ word_from 0 s
+unfolding word_from
+word_eight s h =
+    ap (from_be_bytes w64) (sym (all_listed s 8 h)) ∙ omega arith ∙ ap (word_from 0) (all_listed s 8 h)
 
-pub or_last : {X : ℕ} (x b : ℕ) → b < 256 → X ≡ x * 256 → bit_or X b ≡ x * 256 + b
-or_last {X} x b hb e = ap (λ (n : ℕ). bit_or n b) e ∙ or_shifted x 8 b hb
+-- ---- a list in chunks
+
+pub chunk_at : (n k : ℕ) (s : List ℕ) (i : ℕ) (d : List ℕ) → i < k → get_or (first_chunks n k s) i d ≡ take n (drop (i * n) s)
+chunk_at n zero s i d h = absurd (omega arith)
+chunk_at n (suc k) s zero d h = ap (λ (m : ℕ). take n (drop m s)) (sym (zero-mul n))
+chunk_at n (suc k) s (suc i) d h =
+    chunk_at n k (drop n s) i d (omega arith) ∙ ap (take n) (drop-drop (i * n) n s ∙ ap (λ (m : ℕ). drop m s) (add_comm n (i * n) ∙ sym (suc-mul i n)))
 
 -- ---- the CRC of a number's bytes
 

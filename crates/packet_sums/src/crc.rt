@@ -1,6 +1,6 @@
 // The CRC, the trailer of most frames. There is no table: the quotient by the polynomial is worked out by shifts, for up to eight
 // bytes at once.
-ghost use Rattle.std.specs.Prelude.{◌≡◌, ◌+◌, ◌*◌, ◌/◌, ◌%◌, ◌≤◌, [], ◌∷◌, length, take, drop};
+ghost use Rattle.std.specs.Prelude.{◌≡◌, ◌+◌, ◌*◌, ◌/◌, ◌%◌, ◌^◌, ◌<◌, length};
 ghost use Rattle.slices.specs.Number.{low_first};
 ghost use Rattle.packet_sums.specs.Crc.{crc_byte, crc_of};
 ghost use Rattle.packet_sums.specs.Word.{word_from, crc_word};
@@ -29,79 +29,35 @@ fn crc_word(z: u64) -> u16
     (((quotient << 12) ^ (quotient << 5) ^ quotient) % 65536) as u16
 }
 
-// Eight bytes as a number, the first one highest. Written flat, so that it is compiled to a single load where the bytes are neighbours.
-fn word_be(b0: u8, b1: u8, b2: u8, b3: u8, b4: u8, b5: u8, b6: u8, b7: u8) -> u64
-    ensures { result ≡ word_from 0 (b0 ∷ b1 ∷ b2 ∷ b3 ∷ b4 ∷ b5 ∷ b6 ∷ b7 ∷ []) }
+// The CRC of the bytes that stand before the words of eight: those but for an odd one behind FF FF, as a number, and then that one.
+// The start comes from FF FF, since 1D0F is their CRC from 0.
+fn crc_head(head: &[u8]) -> u16
+    requires { length head.now < 8 }
+    ensures { result ≡ crc_of head.now }
 {
-    ((b0 as u64) << 56)
-        | ((b1 as u64) << 48)
-        | ((b2 as u64) << 40)
-        | ((b3 as u64) << 32)
-        | ((b4 as u64) << 24)
-        | ((b5 as u64) << 16)
-        | ((b6 as u64) << 8)
-        | (b7 as u64)
-}
-
-// The eight bytes from `i` on, as a number.
-fn word_at(s: &[u8], i: usize) -> u64
-    requires { i + 8 ≤ length s.now }
-    ensures { result ≡ word_from 0 (take 8 (drop i s.now)) }
-{
-    word_be(
-        s[i],
-        s[i + 1],
-        s[i + 2],
-        s[i + 3],
-        s[i + 4],
-        s[i + 5],
-        s[i + 6],
-        s[i + 7],
-    )
-}
-
-// What stands before the words of eight, but for an odd byte: none, two, four or six bytes behind FF FF. The start comes from these
-// two, since 1D0F is their CRC from 0.
-fn head_word(s: &[u8]) -> u64
-    ensures { result ≡ word_from 0xFFFF (take (length s.now % 8 / 2 * 2) s.now) }
-{
-    let short = s.len() % 8;
-    if short < 2 {
-        return 0xFFFF;
-    }
-    if short < 4 {
-        return word_be(0, 0, 0, 0, 0xFF, 0xFF, s[0], s[1]);
-    }
-    if short < 6 {
-        return word_be(0, 0, 0xFF, 0xFF, s[0], s[1], s[2], s[3]);
-    }
-    word_be(0xFF, 0xFF, s[0], s[1], s[2], s[3], s[4], s[5])
-}
-
-// The CRC of the bytes that stand before the words of eight.
-fn crc_head(bytes: &[u8]) -> u16
-    ensures { result ≡ crc_of (take (length bytes.now % 8) bytes.now) }
-{
-    let short = bytes.len() % 8;
-    if short == 0 {
+    if head.is_empty() {
         return START;
     }
-    let even = crc_word(head_word(bytes));
-    if short % 2 == 0 {
-        return even;
+    let (pairs, odd) = head.as_chunks::<2>();
+    let mut word = 0xFFFF;
+    for pair in pairs {
+        word = (word << 16) | u64::from(u16::from_be_bytes(*pair));
     }
-    crc_byte(even, bytes[short - 1])
+    let even = crc_word(word);
+    match odd {
+        [] => even,
+        [byte, ..] => crc_byte(even, *byte),
+    }
 }
 
 // The CRC over all of `bytes`.
 pub fn crc16(bytes: &[u8]) -> u16
     ensures { result ≡ crc_of bytes.now }
 {
-    let mut crc = crc_head(bytes);
-    let mut i = bytes.len() % 8;
-    while i < bytes.len() {
-        crc = crc_word(((crc as u64) << 48) ^ word_at(bytes, i));
-        i += 8;
+    let (head, words) = bytes.as_rchunks::<8>();
+    let mut crc = crc_head(head);
+    for word in words {
+        crc = crc_word((u64::from(crc) << 48) ^ u64::from_be_bytes(*word));
     }
     crc
 }
