@@ -12,7 +12,7 @@ use lib.ListN.{length, get_or, take, drop}
 use Rattle.laws.specs.Bytes.{Bytes}
 use Rattle.laws.proofs.Answers.{one_reading}
 use Rattle.refusal.specs.declared.Refusal.{Refusal}
-use Rattle.refusal.proofs.OneReading.{answer_settled}
+use Rattle.refusal.proofs.OneReading.{result_settled}
 use Rattle.slices.specs.Place.{runs_past, part_of}
 use Rattle.body_message.specs.Message as message
 use Rattle.body_message.specs.Message.{Message, Kind, Kind.ACK, Kind.NAK, Kind.PDID, Kind.PDCAP, Kind.LSTATR, Kind.RAW, Kind.KEYPAD, message_kind, message_numbers, message_rest}
@@ -58,7 +58,7 @@ reading_back (Raw reader format bits) s = refl
 reading_back (Keypad reader count) s = refl
 
 pub read_settled : (s : List ℕ) (r q : Result Body Refusal) → read_answer r s ≡ read_answer q s → r ≡ q
-read_settled s = answer_settled (λ b. message_in b s) (λ m. reading_of (message_kind m) (message_numbers m)) (λ b. reading_back b s)
+read_settled s = result_settled (λ b. message_in b s) (λ m. reading_of (message_kind m) (message_numbers m)) (λ b. reading_back b s)
 
 -- What `read` gives of a payload, with what is looked up there, holds the payload's every byte, and its code.
 pub reading_whole : (c : ℕ) (s : List ℕ) (b : Body) → Bytes s → read_answer (Ok b) s ≡ read_of c s

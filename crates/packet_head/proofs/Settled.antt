@@ -6,7 +6,7 @@ use Prim.Native.Nat.{ℕ}
 use lib.Dec.{eqb}
 use Rattle.std.specs.Prelude.{Result}
 use Rattle.refusal.specs.declared.Refusal.{Refusal}
-use Rattle.refusal.proofs.OneReading.{answer_settled}
+use Rattle.refusal.proofs.OneReading.{result_settled}
 use Rattle.packet_head.specs.Header.{Control, control, address_answer, sqn_answer, control_answer, encoded_answer}
 use Rattle.packet_head.specs.Block.{BlockRead, type_of, scs_answer, scb_answer}
 use Rattle.packet_head.specs.Trailer.{Tail, Tail.checksum, Tail.crc, tail}
@@ -47,19 +47,19 @@ trailer_back (Trailer.Crc n) = refl
 -- ---- the answers
 
 pub address_settled : (r s : Result Address Refusal) → address_answer r ≡ address_answer s → r ≡ s
-address_settled = answer_settled (λ a. a.0) (λ n. record { 0 = n }) (λ a. refl)
+address_settled = result_settled (λ a. a.0) (λ n. record { 0 = n }) (λ a. refl)
 
 pub sqn_settled : (r s : Result Sqn Refusal) → sqn_answer r ≡ sqn_answer s → r ≡ s
-sqn_settled = answer_settled (λ n. n.0) (λ n. record { 0 = n }) (λ n. refl)
+sqn_settled = result_settled (λ n. n.0) (λ n. record { 0 = n }) (λ n. refl)
 
 pub control_settled : (r s : Result ControlByte Refusal) → control_answer r ≡ control_answer s → r ≡ s
-control_settled = answer_settled control control_from (λ c. refl)
+control_settled = result_settled control control_from (λ c. refl)
 
 pub encoded_settled : (r s : Result ℕ Refusal) → encoded_answer r ≡ encoded_answer s → r ≡ s
-encoded_settled = answer_settled (λ b. b) (λ b. b) (λ b. refl)
+encoded_settled = result_settled (λ b. b) (λ b. b) (λ b. refl)
 
 pub scs_settled : (r s : Result ScsType Refusal) → scs_answer r ≡ scs_answer s → r ≡ s
-scs_settled = answer_settled type_of type_from type_back
+scs_settled = result_settled type_of type_from type_back
 
 abbrev block_read : Scb → BlockRead
 block_read b = record { type = type_of b.ty; data_len = b.data_len }
@@ -71,4 +71,4 @@ block_back : (b : Scb) → block_from (block_read b) ≡ b
 block_back b = ap (λ (t : ScsType). record { ty = t; data_len = b.data_len }) (type_back b.ty)
 
 pub scb_settled : (r s : Result Scb Refusal) → scb_answer r ≡ scb_answer s → r ≡ s
-scb_settled = answer_settled block_read block_from block_back
+scb_settled = result_settled block_read block_from block_back

@@ -2,7 +2,7 @@
 -- Assumes nothing.
 use Rattle.std.proofs.Common.{◌≡◌, ℕ, refl, ap, Option, Some, None, Result}
 use Rattle.refusal.specs.declared.Refusal.{Refusal}
-use Rattle.refusal.proofs.OneReading.{answer_settled}
+use Rattle.refusal.proofs.OneReading.{result_settled}
 use Rattle.packet_head.specs.Header.{Control, control}
 use Rattle.packet_head.specs.declared.scb.ScsType.{ScsType}
 use Rattle.packet_head.specs.declared.trailer.Trailer.{Trailer}
@@ -18,7 +18,7 @@ abbrev head_from : Head → FrameHead
 head_from h = record { addr = record { 0 = h.addr }; len = h.len; ctrl = control_from h.ctrl }
 
 pub head_settled : (r s : Result FrameHead Refusal) → head_answer r ≡ head_answer s → r ≡ s
-head_settled = answer_settled head_fields head_from (λ h. refl)
+head_settled = result_settled head_fields head_from (λ h. refl)
 
 -- ---- the frame
 
@@ -64,4 +64,4 @@ packet_back p =
     λ i. packet p.addr.0 (control p.ctrl) (block_back p.block i) p.code p.data_start p.data_len (mac_back p.mac i) (trailer_back p.trailer i) p.len
 
 pub parsed_settled : (r s : Result ParsedPacket Refusal) → parsed r ≡ parsed s → r ≡ s
-parsed_settled = answer_settled fields packet_from packet_back
+parsed_settled = result_settled fields packet_from packet_back

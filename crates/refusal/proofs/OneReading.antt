@@ -87,9 +87,9 @@ pub answer_back : {A B : Type 0} (words : A → B) (back : B → A) → ((a : A)
 answer_back words back h (Ok a) = ap Ok (h a)
 answer_back words back h (Err e) = ap Err (told_back e)
 
-pub answer_settled : {A B : Type 0} (words : A → B) (back : B → A) → ((a : A) → back (words a) ≡ a)
+pub result_settled : {A B : Type 0} (words : A → B) (back : B → A) → ((a : A) → back (words a) ≡ a)
     → (r s : Result A Refusal) → answer words r ≡ answer words s → r ≡ s
-answer_settled words back h = one_reading (answer words) (answer_from back) (answer_back words back h)
+result_settled words back h = one_reading (answer words) (answer_from back) (answer_back words back h)
 
 -- ---- an outcome, whatever stands beside it
 
@@ -105,4 +105,4 @@ outcome_settled o p a b e = sym (outcome_back o a) ∙ ap outcome_from e ∙ out
 -- ---- a length
 
 pub length_settled : (r s : Result ℕ Refusal) → length_answer r ≡ length_answer s → r ≡ s
-length_settled = answer_settled (λ n. n) (λ n. n) (λ n. refl)
+length_settled = result_settled (λ n. n) (λ n. n) (λ n. refl)

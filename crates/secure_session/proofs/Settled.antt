@@ -5,7 +5,7 @@ use mathlib.Core.List.{List}
 use mathlib.Core.Path.{◌≡◌, refl, ap, ap₂}
 use Prim.Native.Nat.{ℕ}
 use Rattle.refusal.specs.declared.Refusal.{Refusal}
-use Rattle.refusal.proofs.OneReading.{outcome_settled, answer_settled as result_settled}
+use Rattle.refusal.proofs.OneReading.{outcome_settled, result_settled}
 use Rattle.secure_keys.specs.declared.crypto.SessionKeys.{SessionKeys}
 use Rattle.secure_session.specs.Channel.{keys_answer}
 use Rattle.secure_session.specs.Handshake.{Step, stepped, stepped_block, block_answer}

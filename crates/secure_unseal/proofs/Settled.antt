@@ -5,7 +5,7 @@ use mathlib.Core.List.{List}
 use Prim.Native.Nat.{ℕ}
 use Rattle.std.specs.Prelude.{Result}
 use Rattle.refusal.specs.declared.Refusal.{Refusal}
-use Rattle.refusal.proofs.OneReading.{answer_settled}
+use Rattle.refusal.proofs.OneReading.{result_settled}
 use Rattle.secure_unseal.specs.Unseal.{Place, UnsealDone, place, place_answer, unseal_told}
 use Rattle.secure_session.specs.declared.session.Processed.{Processed}
 use Rattle.secure_unseal.specs.declared.frame.PayloadPlace.{PayloadPlace}
@@ -14,7 +14,7 @@ abbrev place_from : Place → PayloadPlace
 place_from p = record { in_work = p.in_work; start = p.start; len = p.len }
 
 pub place_settled : (r s : Result PayloadPlace Refusal) → place_answer r ≡ place_answer s → r ≡ s
-place_settled = answer_settled place place_from (λ p. refl)
+place_settled = result_settled place place_from (λ p. refl)
 
 pub unseal_settled : (r s : Processed PayloadPlace) (w x : List ℕ) → unseal_told r w ≡ unseal_told s x → (r ≡ s) × (w ≡ x)
 unseal_settled r s w x e = (
