@@ -1,18 +1,22 @@
 -- KEYEXPANSION, four words at a time: the words 4 r to 4 r + 3 are the round key r.
 -- Assumes nothing.
 use mathlib.Core.Path.{◌≡◌, refl, sym, ap, ap₂, subst, ◌∙◌}
-use mathlib.Core.List.{List, ◌++◌, append_assoc}
-use Prim.Native.Nat.{ℕ, suc, ◌+◌, ◌-◌, ◌*◌, ◌/◌, ◌%◌, ◌<◌, ◌≤◌}
+use mathlib.Core.List.{List, [], ◌++◌, append_assoc}
+use Prim.Native.Nat.{ℕ, suc, ◌+◌, ◌-◌, ◌*◌, ◌/◌, ◌%◌, ◌<◌}
 use native.Mathlib.Numerals.{add-one}
 use native.Mathlib.Omega.{arith}
-use lib.ListN.{length, take, drop, get_or}
-use lib.Seq.{drop-append-add, take_all, take_at, length-take-le, paste, length-paste, take-paste}
+use lib.ListN.{length, take, drop, get_or, set, replicate}
+use lib.Seq.{drop-append-add, take_all}
+use Rattle.std.proofs.lemmas.List.{append-nil, length-set, take_more, take_more_set, flat_map_more}
 use Rattle.laws.specs.Table.{block_of}
 use Rattle.laws.specs.Bytes.{xorl}
-use Rattle.laws.proofs.Listed.{length_block_of, block_listed}
+use Rattle.laws.proofs.Listed.{block_listed}
 use Rattle.aes_field.specs.Field.{◌⊕◌, xtime}
 use Rattle.aes.specs.KeyExpansion.{word, temp, power, words, key_expansion}
-use Rattle.aes.proofs.RoundKey.{key_byte, next_key}
+use Rattle.aes.specs.RoundKey.{key_byte, next_key}
+use Rattle.aes.specs.declared.round.Halves.{Halves}
+use Rattle.aes.specs.Halves.{bytes_of, schedule_of}
+use Rattle.aes.proofs.RoundKeys.{length-bytes_of, length-first_keys}
 
 -- words past p are words of what follows it
 word_past : (p x : List ℕ) (r j : ℕ) → length p ≡ 16 * r → word (p ++ x) (4 * r + j) ≡ word x j
@@ -25,12 +29,6 @@ word_past p x r j e = ap (take 4) (ap (λ (n : ℕ). drop n (p ++ x)) (there p r
 pub power_next : (r : ℕ) → power (r + 1) ≡ xtime (power r)
 unfolding power
 power_next r = rw add-one
-
--- what stands before a copy stays
-take-paste-front : (w : List ℕ) (at : ℕ) (n : List ℕ) → at ≤ length w → take at (paste w at n 16) ≡ take at w
-take-paste-front w at n h =
-    ap (take at) (append_assoc (take at w) (take 16 n) (drop (at + 16) w))
-    ∙ take_at (take at w) (take 16 n ++ drop (at + 16) w) at (length-take-le at w h)
 
 module _ (t : List ℕ) where
   -- one word more, of a list that starts at a round key
@@ -75,51 +73,38 @@ module _ (t : List ℕ) where
       ∙ ap₂ (λ (y : List ℕ) (n : ℕ). p ++ (y ++ next_key t (power n) y)) (sym w) pred
       ∙ sym (append_assoc p x (next_key t (power r) x))
 
-  -- w has the round keys 0 to r, of which k is the last
-  pub record Expanded (key w k : List ℕ) (r : ℕ) : Type 0 where
-    pub size : length w ≡ 176
-    pub last : length k ≡ 16
-    pub front : take (16 * r + 16) w ≡ take (16 * r) w ++ k
-    pub made : words t (4 * r) key ≡ take (16 * r) w ++ k
+  -- ks has the round keys 0 to r
+  pub record Expanded (key : List ℕ) (ks : List Halves) (r : ℕ) : Type 0 where
+    pub size : length ks ≡ 11
+    pub made : words t (4 * r) key ≡ schedule_of (take (r + 1) ks)
 
-  pub expanded-none : (key w : List ℕ) → length key ≡ 16 → length w ≡ 176 → Expanded key (paste w 0 key 16) key 0
+  pub expanded-none : (key : List ℕ) (k : Halves) → bytes_of k ≡ key → Expanded key (replicate 11 k) 0
   unfolding words
-  expanded-none key w l m = record {
-    size = length-paste w 0 key 16 (omega arith) (omega arith) ∙ m;
-    last = l;
-    front = take-paste w 0 key 16 (omega arith) (omega arith) ∙ take_all 16 key (omega arith);
-    made = refl;
+  expanded-none key k e = record {
+    size = refl;
+    made = sym (append-nil (bytes_of k) ∙ e);
   }
 
-  more : (key w k : List ℕ) (r : ℕ) → r < 10 → Expanded key w k r
-      → Expanded key (paste w (16 * r + 16) (next_key t (power r) k) 16) (next_key t (power r) k) (r + 1)
-  unfolding next_key
-  more key w k r h e =
-      let n : List ℕ = next_key t (power r) k in
-      let at : ℕ = 16 * r + 16 in
-      let v : List ℕ = paste w at n 16 in
-      let l : length n ≡ 16 = length_block_of _ in
-      let s : length w ≡ 176 = e.size in
-      let up : 16 * (r + 1) ≡ at = omega arith in
-      let before : take at v ≡ take (16 * r) w ++ k = take-paste-front w at n (omega arith) ∙ e.front in
-      let now : take (16 * (r + 1)) v ≡ take (16 * r) w ++ k = ap (λ (m : ℕ). take m v) up ∙ before in
+  -- a turn that puts n, the round key after the last, behind it
+  pub expanded-more : (key : List ℕ) (ks : List Halves) (d n : Halves) (r : ℕ) → r < 10 → bytes_of n ≡ next_key t (power r) (bytes_of (get_or ks r d))
+      → Expanded key ks r → Expanded key (set ks (r + 1) n) (r + 1)
+  expanded-more key ks d n r h p e =
+      let k : Halves = get_or ks r d in
+      let q : List ℕ = schedule_of (take r ks) in
+      let s : length ks ≡ 11 = e.size in
+      let in_ks : r + 1 < length ks = omega arith in
+      let first : schedule_of (take (r + 1) ks) ≡ q ++ bytes_of k =
+      ap schedule_of (take_more ks r d (omega arith)) ∙ sym (flat_map_more bytes_of [] (take r ks) k) in
       record {
-        size = length-paste w at n 16 (omega arith) (omega arith) ∙ s;
-        last = l;
-        front = ap (λ (m : ℕ). take (m + 16) v) up ∙ take-paste w at n 16 (omega arith) (omega arith)
-            ∙ ap₂ ◌++◌ (e.front ∙ sym now) (take_all 16 n (omega arith));
-        made = grown r key (take (16 * r) w) k (length-take-le (16 * r) w (omega arith)) e.last e.made ∙ ap (λ (p : List ℕ). p ++ n) (sym now);
+        size = length-set ks (r + 1) n ∙ s;
+        made = grown r key q (bytes_of k) (length-first_keys ks r (omega arith)) (length-bytes_of k) (e.made ∙ first)
+            ∙ ap₂ ◌++◌ (sym first) (sym p)
+            ∙ flat_map_more bytes_of [] (take (r + 1) ks) n
+            ∙ ap schedule_of (sym (take_more_set ks (r + 1) n in_ks));
       }
 
-  -- a turn that puts n, the round key after k, behind k
-  pub expanded-more : (key w k n v : List ℕ) (r : ℕ) → r < 10 → n ≡ next_key t (power r) k → v ≡ paste w (16 * r + 16) n 16
-      → Expanded key w k r → Expanded key v n (r + 1)
-  expanded-more key w k n v r h p q e =
-      subst (λ (x : List ℕ). Expanded key x n (r + 1)) (sym q)
-      (subst (λ (x : List ℕ). Expanded key (paste w (16 * r + 16) x 16) x (r + 1)) (sym p) (more key w k r h e))
-
-  pub expanded-all : (key w k : List ℕ) (r : ℕ) → r ≡ 10 → Expanded key w k r → w ≡ key_expansion t key
+  pub expanded-all : (key : List ℕ) (ks : List Halves) (r : ℕ) → r ≡ 10 → Expanded key ks r → schedule_of ks ≡ key_expansion t key
   unfolding key_expansion
-  expanded-all key w k r h e =
-      let ten : Expanded key w k 10 = subst (Expanded key w k) h e in
-      sym (take_all 176 w (omega (arith, e.size))) ∙ ten.front ∙ sym ten.made
+  expanded-all key ks r h e =
+      let ten : Expanded key ks 10 = subst (Expanded key ks) h e in
+      ap schedule_of (sym (take_all 11 ks (omega (arith, e.size)))) ∙ sym ten.made

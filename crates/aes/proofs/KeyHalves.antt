@@ -5,15 +5,14 @@ use mathlib.Core.List.{List, [], ◌∷◌, ◌++◌}
 use Prim.Native.Nat.{ℕ, ◌*◌, ◌/◌, ◌%◌, ◌^◌, ◌<◌}
 use native.Mathlib.Omega.{arith}
 use lib.Bits.{bit_xor, xor_zero_r}
-use lib.ListN.{length, get_or}
+use lib.ListN.{get_or}
 use Rattle.laws.specs.Bytes.{xorl}
 use Rattle.laws.specs.Table.{block_of}
-use Rattle.laws.proofs.Listed.{block_listed}
 use Rattle.aes_field.specs.Field.{◌⊕◌}
 use Rattle.aes_field.specs.Packed.{packed, unpacked}
 use Rattle.aes_field.proofs.Packing.{unpacked_xor, placed, empty, drop_bytes, drop-bytes_is, byte}
-use Rattle.aes.proofs.RoundKey.{key_byte, next_key}
-use Rattle.aes.specs.Halves.{key_turn, carry, part}
+use Rattle.aes.specs.RoundKey.{key_byte, next_key}
+use Rattle.aes.specs.Halves.{key_turn, carry}
 
 -- the first column of l in the second's place
 abbrev up : List ℕ → List ℕ
@@ -61,8 +60,3 @@ next_made t c x y v a b h ev ea eb =
     ap (λ (l : List ℕ). unpacked 8 a ++ l) (eb ∙ ap (carry (unpacked 8 y)) (shifted_down a h))
     ∙ ap (λ (l : List ℕ). l ++ carry (unpacked 8 y) (down l)) one
     ∙ next_halves t c x y
-
--- a key is its two halves
-pub key_halves : (key : List ℕ) → length key ≡ 16 → part key 0 ++ part key 8 ≡ key
-unfolding part block_of
-key_halves key l = block_listed key l

@@ -1,7 +1,7 @@
-mod Rounds
-pub mod RoundKey
+mod Turns
 mod Steps
-mod Halves
+mod InHalves
+mod RoundKeys
 mod KeyHalves
 pub mod Inverse
 pub mod Laws

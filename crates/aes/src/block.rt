@@ -1,42 +1,44 @@
 // CIPHER and INVCIPHER, FIPS 197, 5.1 and 5.3.
-ghost use Rattle.std.specs.Prelude.{◌≡◌};
+ghost use Rattle.std.specs.Prelude.{◌≡◌, ◌≤◌};
 ghost use Rattle.aes.specs.Cipher.{E, D};
 ghost use Rattle.aes.specs.Ready.{enciphered, deciphered};
+ghost use Rattle.aes.specs.Halves.{bytes_of, round_key, schedule_of};
 
-use crate::{ready, round};
+use crate::direction::{Deciphering, Direction, Enciphering};
+use crate::ready;
+use crate::round::Halves;
+
+fn key_at(keys: &[Halves; 11], r: usize) -> Halves
+    requires { r ≤ 10 }
+    ensures { bytes_of result ≡ round_key (schedule_of keys.now) r }
+{
+    keys[r]
+}
+
+// Ten rounds in a direction, of which the last mixes no columns.
+fn cipher<D: Direction>(t: &[u8; 256], keys: &[Halves; 11], block: [u8; 16]) -> [u8; 16]
+    ensures { result ≡ D.whole t.now (schedule_of keys.now) block }
+{
+    let mut s = Halves::from(block) ^ key_at(keys, D::key_number(0));
+    for turn in 1..10 {
+        s = D::mix(D::substitute(t, s), key_at(keys, D::key_number(turn)));
+    }
+    let last = key_at(keys, D::key_number(10));
+    (D::substitute(t, s) ^ last).into()
+}
 
 // Enciphers a block under a key made ready.
 pub fn encrypt(t: &ready::EncryptTables, k: &ready::EncryptKey, block: [u8; 16]) -> [u8; 16]
     ensures { result ≡ enciphered t.now k.now block }
 {
-    let mut x = round::first(block, k, 0);
-    let mut y = round::second(block, k, 8);
-    for r in 0..9 {
-        let at = 16 * (r + 1);
-        let a = round::round(t, k, at, x, y);
-        let b = round::round(t, k, at + 8, y, x);
-        x = a;
-        y = b;
-    }
-    round::joined(round::last(t, k, 160, x, y), round::last(t, k, 168, y, x))
+    cipher::<Enciphering>(t.entries, &k.round_keys, block)
 }
 
 // Deciphers a block under a key made ready for that.
 pub fn decrypt(t: &ready::DecryptTables, k: &ready::DecryptKey, block: [u8; 16]) -> [u8; 16]
     ensures { result ≡ deciphered t.now k.now block }
 {
-    let mut x = round::first(block, k, 160);
-    let mut y = round::second(block, k, 168);
-    let mut r = 9;
-    while 0 < r {
-        let at = 16 * r;
-        let a = round::unround(t, k, at, x, y);
-        let b = round::unround(t, k, at + 8, y, x);
-        x = a;
-        y = b;
-        r -= 1;
-    }
-    round::joined(round::unlast(t, k, 0, x, y), round::unlast(t, k, 8, y, x))
+    cipher::<Deciphering>(t.entries, &k.round_keys, block)
 }
 
 // One block under a key.

@@ -2,12 +2,15 @@
 #![tactic(auto)]
 
 mod block;
+mod direction;
 mod ready;
 mod round;
 mod schedule;
 
 pub use block::{decrypt, decrypt_block, encrypt, encrypt_block};
+pub use direction::{Deciphering, Enciphering};
 pub use ready::{
-    DecryptKey, DecryptTables, EncryptKey, EncryptTables, decrypt_key, decrypt_tables, encrypt_key,
-    encrypt_tables,
+    DecryptKey, DecryptTables, EncryptKey, EncryptTables, Key, Tables, decrypt_key, decrypt_tables,
+    encrypt_key, encrypt_tables,
 };
+pub use round::Halves;

@@ -1,40 +1,91 @@
 // What a run of blocks under one key goes by, made once for the run and lent for each block: the key made ready, and the tables,
-// which all keys share. What they hold, and how long they are, is this crate's business alone.
-ghost use Rattle.std.specs.Prelude.{◌≡◌};
+// which all keys share. A contract sees the bytes of either.
+ghost use Rattle.std.specs.Prelude.{◌≡◌, List, ℕ};
 ghost use Rattle.aes.specs.Ready.{encrypt_tables, decrypt_tables, encrypt_key, decrypt_key};
+ghost use Rattle.aes.specs.Halves.{schedule_of};
 
+use crate::direction::{Deciphering, Direction, Enciphering};
+use crate::round::Halves;
 use crate::schedule;
-use aes_field::sbox;
+use std::marker::{Model, PhantomData};
 
-pub type EncryptTables = [u8; 256];
+// The substitution table of a direction.
+#[derive(Drop)]
+pub struct Tables<D> {
+    pub(crate) entries: &'static [u8; 256],
+    direction: PhantomData<D>,
+}
 
-pub type DecryptTables = [u8; 256];
+impl<D> Model for Tables<D> {
+    ghost Value = { List ℕ };
 
-pub type EncryptKey = [u8; 176];
+    ghost view = { λ t. t.entries.now };
+}
 
-pub type DecryptKey = [u8; 176];
+impl<D> From<&'static [u8; 256]> for Tables<D> {
+    ghost from_gives = { λ entries t. t ≡ entries.now };
+
+    fn from(entries: &'static [u8; 256]) -> Self {
+        Tables {
+            entries,
+            direction: PhantomData,
+        }
+    }
+}
+
+// A key made ready for a direction.
+#[derive(Drop)]
+pub struct Key<D> {
+    pub(crate) round_keys: [Halves; 11],
+    direction: PhantomData<D>,
+}
+
+impl<D> Model for Key<D> {
+    ghost Value = { List ℕ };
+
+    ghost view = { λ k. schedule_of k.round_keys };
+}
+
+impl<D> From<[Halves; 11]> for Key<D> {
+    ghost from_gives = { λ round_keys k. k ≡ schedule_of round_keys };
+
+    fn from(round_keys: [Halves; 11]) -> Self {
+        Key {
+            round_keys,
+            direction: PhantomData,
+        }
+    }
+}
+
+pub type EncryptTables = Tables<Enciphering>;
+
+pub type DecryptTables = Tables<Deciphering>;
+
+pub type EncryptKey = Key<Enciphering>;
+
+pub type DecryptKey = Key<Deciphering>;
 
 pub fn encrypt_tables() -> EncryptTables
     ensures { result ≡ encrypt_tables }
 {
-    sbox::forward_table()
+    Enciphering::table().into()
 }
 
 pub fn decrypt_tables() -> DecryptTables
     ensures { result ≡ decrypt_tables }
 {
-    sbox::inverse_table()
+    Deciphering::table().into()
 }
 
 pub fn encrypt_key(t: &EncryptTables, key: [u8; 16]) -> EncryptKey
     ensures { result ≡ encrypt_key t.now key }
 {
-    schedule::expand(t, key)
+    schedule::expand(t.entries, key).into()
 }
 
 // A key is made ready with the tables of enciphering both ways.
 pub fn decrypt_key(t: &EncryptTables, key: [u8; 16]) -> DecryptKey
     ensures { result ≡ decrypt_key t.now key }
 {
-    schedule::expand(t, key)
+    schedule::expand(t.entries, key).into()
 }

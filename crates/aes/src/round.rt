@@ -1,12 +1,63 @@
-// The steps of a round. A half of the state, two of its columns, stands in one number of 64 bits, the first byte lowest; each
-// step makes the half that its first number is, from both. The tables and the key schedule are lent.
-ghost use Rattle.std.specs.Prelude.{◌≡◌, ◌++◌, ◌≤◌, ◌%◌, get_or};
-ghost use Rattle.laws.specs.Bytes.{xorl};
-ghost use Rattle.aes_field.specs.Mix.{mix_byte, inv_mix_byte};
-ghost use Rattle.aes_field.specs.Packed.{unpacked, columns};
-ghost use Rattle.aes.specs.Halves.{sub_shift, unshift_sub, part};
+// The state of the cipher as two numbers, and the steps of a round on it. The tables are lent.
+ghost use Rattle.std.specs.Prelude.{◌≡◌, ◌%◌, get_or};
+ghost use Rattle.aes_field.specs.Packed.{unpacked};
+ghost use Rattle.aes.specs.Halves.{shifted, bytes_of, added};
 
 use aes_field::field;
+use std::ops::BitXor;
+
+// Sixteen bytes, a state or a round key: two columns in each number, the first byte lowest.
+#[derive(Clone, Copy)]
+pub struct Halves {
+    pub first: u64,
+    pub second: u64,
+}
+
+impl From<[u8; 16]> for Halves {
+    ghost from_gives = { λ block s. bytes_of s ≡ block };
+
+    fn from(block: [u8; 16]) -> Self {
+        Halves {
+            first: field::pack(*block.first_chunk().unwrap()),
+            second: field::pack(*block.last_chunk().unwrap()),
+        }
+    }
+}
+
+impl From<Halves> for [u8; 16] {
+    ghost from_gives = { λ s block. block ≡ bytes_of s };
+
+    fn from(s: Halves) -> [u8; 16] {
+        let mut block = [0; 16];
+        block[..8].copy_from_slice(&field::unpack(s.first));
+        block[8..].copy_from_slice(&field::unpack(s.second));
+        block
+    }
+}
+
+impl BitXor for Halves {
+    type Output = Halves;
+
+    ghost bitxor_gives = { λ s k r. bytes_of r ≡ added (bytes_of s) (bytes_of k) };
+
+    fn bitxor(self, key: Halves) -> Halves {
+        Halves {
+            first: self.first ^ key.first,
+            second: self.second ^ key.second,
+        }
+    }
+}
+
+impl Halves {
+    pub(crate) fn swapped(self) -> Halves
+        ensures { result ≡ record { first = self.second; second = self.first } }
+    {
+        Halves {
+            first: self.second,
+            second: self.first,
+        }
+    }
+}
 
 // The byte that a table puts in the place of the lowest byte of x.
 pub(crate) fn sub(t: &[u8; 256], x: u64) -> u8
@@ -15,129 +66,18 @@ pub(crate) fn sub(t: &[u8; 256], x: u64) -> u8
     t[(x & 255) as usize]
 }
 
-// SubBytes and ShiftRows.
-fn substitute(t: &[u8; 256], x: u64, y: u64) -> u64
-    ensures { unpacked 8 result ≡ sub_shift t.now (unpacked 8 x) (unpacked 8 y) }
+// SubBytes, and the rows shifted, of the first half: its rows 0 and 2 come from `even`, its rows 1 and 3 from `odd`.
+pub(crate) fn substitute(t: &[u8; 256], even: Halves, odd: Halves) -> u64
+    ensures { unpacked 8 result ≡ shifted t.now (unpacked 8 even.first) (unpacked 8 even.second) (unpacked 8 odd.first) (unpacked 8 odd.second) }
 {
-    field::pack(
-        sub(t, x),
-        sub(t, x >> 40),
-        sub(t, y >> 16),
-        sub(t, y >> 56),
-        sub(t, x >> 32),
-        sub(t, y >> 8),
-        sub(t, y >> 48),
-        sub(t, x >> 24),
-    )
-}
-
-// InvShiftRows and InvSubBytes, with the inverse table.
-fn unsubstitute(t: &[u8; 256], x: u64, y: u64) -> u64
-    ensures { unpacked 8 result ≡ unshift_sub t.now (unpacked 8 x) (unpacked 8 y) }
-{
-    field::pack(
-        sub(t, x),
-        sub(t, y >> 40),
-        sub(t, y >> 16),
-        sub(t, x >> 56),
-        sub(t, x >> 32),
-        sub(t, x >> 8),
-        sub(t, y >> 48),
-        sub(t, y >> 24),
-    )
-}
-
-// Eight bytes of the key schedule, from `at` on.
-fn key(w: &[u8; 176], at: usize) -> u64
-    requires { at ≤ 168 }
-    ensures { unpacked 8 result ≡ part w.now at }
-{
-    field::pack(
-        w[at],
-        w[at + 1],
-        w[at + 2],
-        w[at + 3],
-        w[at + 4],
-        w[at + 5],
-        w[at + 6],
-        w[at + 7],
-    )
-}
-
-// The first half of a block, and a round key added.
-pub(crate) fn first(s: [u8; 16], w: &[u8; 176], at: usize) -> u64
-    requires { at ≤ 160 }
-    ensures { unpacked 8 result ≡ xorl (part s 0) (part w.now at) }
-{
-    field::pack(s[0], s[1], s[2], s[3], s[4], s[5], s[6], s[7]) ^ key(w, at)
-}
-
-// The second half.
-pub(crate) fn second(s: [u8; 16], w: &[u8; 176], at: usize) -> u64
-    requires { at ≤ 168 }
-    ensures { unpacked 8 result ≡ xorl (part s 8) (part w.now at) }
-{
-    field::pack(s[8], s[9], s[10], s[11], s[12], s[13], s[14], s[15]) ^ key(w, at)
-}
-
-// A round of Cipher, with the half of its round key from `at` on.
-pub(crate) fn round(t: &[u8; 256], w: &[u8; 176], at: usize, x: u64, y: u64) -> u64
-    requires { at ≤ 168 }
-    ensures { unpacked 8 result ≡ xorl (columns mix_byte (sub_shift t.now (unpacked 8 x) (unpacked 8 y))) (part w.now at) }
-{
-    field::mix(substitute(t, x, y)) ^ key(w, at)
-}
-
-// The last round, which mixes no columns.
-pub(crate) fn last(t: &[u8; 256], w: &[u8; 176], at: usize, x: u64, y: u64) -> u64
-    requires { at ≤ 168 }
-    ensures { unpacked 8 result ≡ xorl (sub_shift t.now (unpacked 8 x) (unpacked 8 y)) (part w.now at) }
-{
-    substitute(t, x, y) ^ key(w, at)
-}
-
-// A round of InvCipher.
-pub(crate) fn unround(t: &[u8; 256], w: &[u8; 176], at: usize, x: u64, y: u64) -> u64
-    requires { at ≤ 168 }
-    ensures { unpacked 8 result ≡ columns inv_mix_byte (xorl (unshift_sub t.now (unpacked 8 x) (unpacked 8 y)) (part w.now at)) }
-{
-    field::unmix(unsubstitute(t, x, y) ^ key(w, at))
-}
-
-// Its last round.
-pub(crate) fn unlast(t: &[u8; 256], w: &[u8; 176], at: usize, x: u64, y: u64) -> u64
-    requires { at ≤ 168 }
-    ensures { unpacked 8 result ≡ xorl (unshift_sub t.now (unpacked 8 x) (unpacked 8 y)) (part w.now at) }
-{
-    unsubstitute(t, x, y) ^ key(w, at)
-}
-
-pub(crate) fn low(x: u64) -> u8
-    ensures { result ≡ x % 256 }
-{
-    (x & 255) as u8
-}
-
-// The block that two halves are.
-pub(crate) fn joined(x: u64, y: u64) -> [u8; 16]
-    ensures { result ≡ unpacked 8 x ++ unpacked 8 y }
-{
-    [
-        low(x),
-        low(x >> 8),
-        low(x >> 16),
-        low(x >> 24),
-        low(x >> 32),
-        low(x >> 40),
-        low(x >> 48),
-        low(x >> 56),
-        low(y),
-        low(y >> 8),
-        low(y >> 16),
-        low(y >> 24),
-        low(y >> 32),
-        low(y >> 40),
-        low(y >> 48),
-        low(y >> 56),
-    ]
+    field::pack([
+        sub(t, even.first),
+        sub(t, odd.first >> 40),
+        sub(t, even.second >> 16),
+        sub(t, odd.second >> 56),
+        sub(t, even.first >> 32),
+        sub(t, odd.second >> 8),
+        sub(t, even.second >> 48),
+        sub(t, odd.first >> 24),
+    ])
 }

@@ -1,19 +1,18 @@
-// The key schedule, FIPS 197, 5.2: 44 words of four bytes, made a round key at a time. A round key is made as two halves, two of
-// its words in one number of 64 bits, the first byte lowest.
-ghost use Rattle.std.specs.Prelude.{◌≡◌, ◌++◌, ◌≤◌, length};
-ghost use Rattle.std.proofs.Math.Seq.{paste};
+// The key schedule, FIPS 197, 5.2: 44 words of four bytes, made a round key at a time.
+ghost use Rattle.std.specs.Prelude.{◌≡◌};
 ghost use Rattle.aes_field.specs.Packed.{unpacked};
 ghost use Rattle.aes.specs.KeyExpansion.{key_expansion};
-ghost use Rattle.aes.specs.Halves.{key_turn, carry};
+ghost use Rattle.aes.specs.Halves.{key_turn, carry, bytes_of, schedule_of};
+ghost use Rattle.aes.specs.RoundKey.{next_key};
 
-use crate::round;
+use crate::round::{self, Halves};
 use aes_field::field;
 
 // SubWord of RotWord of the last column of y, and c, the round's constant, at its first byte.
 fn turned(t: &[u8; 256], y: u64, c: u8) -> u64
     ensures { unpacked 8 result ≡ key_turn t.now c (unpacked 8 y) }
 {
-    field::pack(
+    field::pack([
         round::sub(t, y >> 40) ^ c,
         round::sub(t, y >> 48),
         round::sub(t, y >> 56),
@@ -22,7 +21,7 @@ fn turned(t: &[u8; 256], y: u64, c: u8) -> u64
         0,
         0,
         0,
-    )
+    ])
 }
 
 // The sum of x and v, and its first column added to its second: a half of a round key, where v is what its first word takes.
@@ -33,48 +32,24 @@ fn half(x: u64, v: u64) -> u64
     z ^ (z << 32)
 }
 
-// Writes x and y over the sixteen bytes of w from `at` on.
-fn put(w: &mut [u8; 176], at: usize, x: u64, y: u64)
-    requires { (at ≤ 160) × (length w.old ≡ 176) }
-    ensures { w.new ≡ paste w.old at (unpacked 8 x ++ unpacked 8 y) 16 }
+// The round key after `key`, where c is the round's constant.
+fn next(t: &[u8; 256], key: Halves, c: u8) -> Halves
+    ensures { bytes_of result ≡ next_key t.now c (bytes_of key) }
 {
-    w[at] = round::low(x);
-    w[at + 1] = round::low(x >> 8);
-    w[at + 2] = round::low(x >> 16);
-    w[at + 3] = round::low(x >> 24);
-    w[at + 4] = round::low(x >> 32);
-    w[at + 5] = round::low(x >> 40);
-    w[at + 6] = round::low(x >> 48);
-    w[at + 7] = round::low(x >> 56);
-    w[at + 8] = round::low(y);
-    w[at + 9] = round::low(y >> 8);
-    w[at + 10] = round::low(y >> 16);
-    w[at + 11] = round::low(y >> 24);
-    w[at + 12] = round::low(y >> 32);
-    w[at + 13] = round::low(y >> 40);
-    w[at + 14] = round::low(y >> 48);
-    w[at + 15] = round::low(y >> 56);
+    let first = half(key.first, turned(t, key.second, c));
+    let second = half(key.second, first >> 32);
+    Halves { first, second }
 }
 
 // The schedule of a key.
-pub(crate) fn expand(t: &[u8; 256], key: [u8; 16]) -> [u8; 176]
-    ensures { result ≡ key_expansion t.now key }
+pub(crate) fn expand(t: &[u8; 256], key: [u8; 16]) -> [Halves; 11]
+    ensures { schedule_of result ≡ key_expansion t.now key }
 {
-    let mut w = [0u8; 176];
-    let mut x = field::pack(
-        key[0], key[1], key[2], key[3], key[4], key[5], key[6], key[7],
-    );
-    let mut y = field::pack(
-        key[8], key[9], key[10], key[11], key[12], key[13], key[14], key[15],
-    );
-    put(&mut w, 0, x, y);
+    let mut keys = [Halves::from(key); 11];
     let mut c = 1u8;
     for r in 0..10 {
-        x = half(x, turned(t, y, c));
-        y = half(y, x >> 32);
-        put(&mut w, 16 * r + 16, x, y);
-        let d = field::twice(c);
-        c = d;
+        keys[r + 1] = next(t, keys[r], c);
+        c = field::twice(c);
     }
-    w
+    keys
 }

@@ -8,11 +8,13 @@ use native.Mathlib.Omega.{arith}
 use lib.Dec.{lit<}
 use lib.Bits.{bit_and, bit_xor, and_block, xor_block, and_mask, and_high, and_le_r, and_zero_r, xor_zero_r, xor_mod, xor_shr}
 use lib.ListN.{length, get_or, replicate}
+use Rattle.std.specs.Int.{w64, to_le_bytes}
+use Rattle.std.proofs.Common.{◌⊎◌, inl, inr}
 use Rattle.laws.specs.Bytes.{Bytes, xorl}
 use Rattle.laws.proofs.ByteLists.{bytes_nil, bytes_cons, bytes-replicate}
 use Rattle.laws.proofs.Xor.{bit_ind}
 use Rattle.aes_field.specs.Field.{◌⊕◌, xtime}
-use Rattle.aes_field.specs.Packed.{packed, unpacked, columns}
+use Rattle.aes_field.specs.Packed.{packed, unpacked, columns, row}
 
 -- ---- packing and unpacking
 
@@ -152,6 +154,12 @@ drop-bytes_is x (suc i) = ap (λ (n : ℕ). x / n) (pow-suc 256 i) ∙ sym (div-
 pub byte_at : (x i : ℕ) → x / 256 ^ i % 256 ≡ drop_bytes x i % 256
 byte_at x i = ap (λ (z : ℕ). z % 256) (drop-bytes_is x i)
 
+-- the bytes of a number as std has them
+pub le-bytes_unpacked : (x : ℕ) → to_le_bytes w64 x ≡ unpacked 8 x
+unfolding unpacked
+le-bytes_unpacked x =
+    λ i. x % 256 ∷ byte_at x 1 i ∷ byte_at x 2 i ∷ byte_at x 3 i ∷ byte_at x 4 i ∷ byte_at x 5 i ∷ byte_at x 6 i ∷ byte_at x 7 i ∷ []
+
 pub entry_at : (t : List ℕ) (x i : ℕ) → get_or t (x / 256 ^ i % 256) 0 ≡ get_or t (drop_bytes x i % 256) 0
 entry_at t x i = ap (λ (z : ℕ). get_or t z 0) (byte_at x i)
 
@@ -245,3 +253,11 @@ module _ (x : ℕ) (h : x < 2 ^ 64) where
       (eight_bytes (byte (g 2)) (byte (g 3)) empty empty (byte (g 6)) (byte (g 7)) empty empty)
       (eight_bytes empty empty (byte (g 0)) (byte (g 1)) empty empty (byte (g 4)) (byte (g 5)))
       ∙ simp xor_zero_r
+
+  -- each byte replaced by the one k below it
+  pub turned : (k : ℕ) → (k ≡ 1) ⊎ (k ≡ 2)
+      → bit_xor (bit_and (x / 2 ^ (8 * k)) (0xffffffff / 2 ^ (8 * k) * 0x0000000100000001))
+      (bit_and x (0xffffffffffffffff - 0xffffffff / 2 ^ (8 * k) * 0x0000000100000001 * 2 ^ (8 * k) % 2 ^ 64) * 2 ^ (32 - 8 * k) % 2 ^ 64)
+      ≡ packed (columns (row k) (unpacked 8 x))
+  turned k (inl e) = rw e turn_one
+  turned k (inr e) = rw e turn_two

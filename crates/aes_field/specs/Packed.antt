@@ -18,3 +18,9 @@ columns F l =
     let g : ℕ → ℕ = λ i. get_or l i 0 in
     F (g 0) (g 1) (g 2) (g 3) ∷ F (g 1) (g 2) (g 3) (g 0) ∷ F (g 2) (g 3) (g 0) (g 1) ∷ F (g 3) (g 0) (g 1) (g 2)
     ∷ F (g 4) (g 5) (g 6) (g 7) ∷ F (g 5) (g 6) (g 7) (g 4) ∷ F (g 6) (g 7) (g 4) (g 5) ∷ F (g 7) (g 4) (g 5) (g 6) ∷ []
+
+-- of a byte and the three below it, the one k rows below
+abbrev pub row : ℕ → ℕ → ℕ → ℕ → ℕ → ℕ
+row zero a b c d = a
+row (suc zero) a b c d = b
+row (suc (suc k)) a b c d = c

@@ -1,9 +1,9 @@
 // Bytes as elements of GF(2^8), and the mixing of two columns at a time. Two columns stand in one number of 64 bits, the first
 // byte lowest, so that a sum or a product by x is made for eight bytes at once.
-ghost use Rattle.std.specs.Prelude.{◌≡◌, [], ◌∷◌, map};
+ghost use Rattle.std.specs.Prelude.{◌≡◌, ◌⊎◌, map};
 ghost use Rattle.aes_field.specs.Field.{xtime};
 ghost use Rattle.aes_field.specs.Mix.{mix_byte, inv_mix_byte};
-ghost use Rattle.aes_field.specs.Packed.{packed, unpacked, columns};
+ghost use Rattle.aes_field.specs.Packed.{packed, unpacked, columns, row};
 
 // x times a byte.
 pub fn twice(a: u8) -> u8
@@ -13,12 +13,17 @@ pub fn twice(a: u8) -> u8
 }
 
 // Eight bytes in one number.
-pub fn pack(a: u8, b: u8, c: u8, d: u8, e: u8, f: u8, g: u8, h: u8) -> u64
-    ensures { unpacked 8 result ≡ a ∷ b ∷ c ∷ d ∷ e ∷ f ∷ g ∷ h ∷ [] }
+pub fn pack(bytes: [u8; 8]) -> u64
+    ensures { unpacked 8 result ≡ bytes }
 {
-    let low = (d as u64) * 16777216 + (c as u64) * 65536 + ((b as u64) * 256 + (a as u64));
-    let high = (h as u64) * 16777216 + (g as u64) * 65536 + ((f as u64) * 256 + (e as u64));
-    high * 4294967296 + low
+    u64::from_le_bytes(bytes)
+}
+
+// The eight bytes of a number.
+pub fn unpack(x: u64) -> [u8; 8]
+    ensures { result ≡ unpacked 8 x }
+{
+    x.to_le_bytes()
 }
 
 // x times each byte. 1b is added where a bit falls out of a byte: that bit spread over the seven below it, under a mask.
@@ -29,32 +34,28 @@ fn twice_each(x: u64) -> u64
     ((x & 0x7f7f7f7f7f7f7f7f) << 1) ^ ((top - (top >> 7)) & 0x1b1b1b1b1b1b1b1b)
 }
 
-// Each byte replaced by the one below it in its column.
-fn turn_one(x: u64) -> u64
-    ensures { result ≡ packed (columns (λ a b c d. b) (unpacked 8 x)) }
+// Each byte replaced by the one ROWS below it in its column, where the first comes after the last.
+fn turn<const ROWS: u32>(x: u64) -> u64
+    requires { (ROWS ≡ 1) ⊎ (ROWS ≡ 2) }
+    ensures { result ≡ packed (columns (row ROWS) (unpacked 8 x)) }
 {
-    ((x >> 8) & 0x00ffffff00ffffff) ^ ((x & 0x000000ff000000ff) << 24)
-}
-
-// Each byte replaced by the one two below it.
-fn turn_two(x: u64) -> u64
-    ensures { result ≡ packed (columns (λ a b c d. c) (unpacked 8 x)) }
-{
-    ((x >> 16) & 0x0000ffff0000ffff) ^ ((x & 0x0000ffff0000ffff) << 16)
+    let up = 8 * ROWS;
+    let kept = (0xffffffff >> up) * 0x0000000100000001;
+    ((x >> up) & kept) ^ ((x & !(kept << up)) << (32 - up))
 }
 
 // MixColumns of two columns: 02 a + 03 b + c + d is 02 (a + b) + b + (c + d).
 pub fn mix(x: u64) -> u64
     ensures { unpacked 8 result ≡ columns mix_byte (unpacked 8 x) }
 {
-    let y = turn_one(x);
+    let y = turn::<1>(x);
     let z = x ^ y;
-    twice_each(z) ^ y ^ turn_two(z)
+    twice_each(z) ^ y ^ turn::<2>(z)
 }
 
 // InvMixColumns of two columns: each byte and 04 times the sum of it and the one two below it, mixed.
 pub fn unmix(x: u64) -> u64
     ensures { unpacked 8 result ≡ columns inv_mix_byte (unpacked 8 x) }
 {
-    mix(x ^ twice_each(twice_each(x ^ turn_two(x))))
+    mix(x ^ twice_each(twice_each(x ^ turn::<2>(x))))
 }

@@ -2,7 +2,7 @@
 ghost use Rattle.std.specs.Prelude.{◌≡◌};
 ghost use Rattle.aes_field.specs.Sbox.{SBOX, INVSBOX};
 
-const FORWARD: [u8; 256] = [
+static FORWARD: [u8; 256] = [
     99, // 00
     124, 119, 123, 242, 107, 111, 197, 48, 1, 103, 43, 254, 215, 171, 118, 202, // 10
     130, 201, 125, 250, 89, 71, 240, 173, 212, 162, 175, 156, 164, 114, 192, 183, // 20
@@ -22,7 +22,7 @@ const FORWARD: [u8; 256] = [
     161, 137, 13, 191, 230, 66, 104, 65, 153, 45, 15, 176, 84, 187, 22,
 ];
 
-const INVERSE: [u8; 256] = [
+static INVERSE: [u8; 256] = [
     82, // 00
     9, 106, 213, 48, 54, 165, 56, 191, 64, 163, 158, 129, 243, 215, 251, 124, // 10
     227, 57, 130, 155, 47, 255, 135, 52, 142, 67, 68, 196, 222, 233, 203, 84, // 20
@@ -42,15 +42,15 @@ const INVERSE: [u8; 256] = [
     43, 4, 126, 186, 119, 214, 38, 225, 105, 20, 99, 85, 33, 12, 125,
 ];
 
-// A constant is laid out anew by each function that names it, so a caller takes a table once and lends it on.
-pub fn forward_table() -> [u8; 256]
-    ensures { result ≡ SBOX }
+// The two tables are data, and stay two: each function lends its own.
+pub fn forward_table() -> &'static [u8; 256]
+    ensures { result.now ≡ SBOX }
 {
-    FORWARD
+    &FORWARD
 }
 
-pub fn inverse_table() -> [u8; 256]
-    ensures { result ≡ INVSBOX }
+pub fn inverse_table() -> &'static [u8; 256]
+    ensures { result.now ≡ INVSBOX }
 {
-    INVERSE
+    &INVERSE
 }

@@ -1,13 +1,9 @@
--- `aes_field::field::pack` meets its contract: each byte has its place.
-use native.Mathlib.Omega.{arith}
-use Rattle.aes_field.specs.Packed.{packed}
-use Rattle.aes_field.proofs.Packing.{placed}
+-- `aes_field::field::pack` meets its contract: std reads back the bytes that it wrote.
+use mathlib.Core.Path.{sym, ◌∙◌}
+use borrow.Author.Rules.{rules}
+use Rattle.std.proofs.lemmas.Nat.{le_bytes_8}
+use Rattle.aes_field.proofs.Packing.{le-bytes_unpacked}
 use Rattle.aes_field.proofs.field.pack.Goals as goal
 
 pub returns : goal.returns
-unfolding packed
-returns c =
-    let a = c.args in
-    let f = c.ranges in
-    placed a.a a.b a.c a.d a.e a.f a.g a.h
-    f.a.fits f.b.fits f.c.fits f.d.fits f.e.fits f.f.fits f.g.fits f.h.fits _ (omega arith)
+returns c = sym (le-bytes_unpacked _) ∙ le_bytes_8 c.args.bytes _ (search rules) (search rules) c.from_le_bytes.ensures

@@ -1,6 +1,0 @@
--- `aes_field::field::turn_one` meets its contract: the masks keep the bytes apart.
-use Rattle.aes_field.proofs.Packing as packing
-use Rattle.aes_field.proofs.field.turn_one.Goals as goal
-
-pub returns : goal.returns
-returns c = packing.turn_one c.args.x c.ranges.x.fits
