@@ -1,4 +1,5 @@
-// Addresses, sequence numbers and the control byte.
+// Addresses, sequence numbers and the control byte. What converts them has the Rust's names, by which docs/PROMISES.md promises it, and
+// is therefore no From or TryFrom.
 ghost use Rattle.std.specs.Prelude.{◌≡◌, cond, ◌%◌, ◌≤◌, leb, eqb};
 ghost use Rattle.packet_head.specs.Numbers.{BROADCAST_ADDR, REPLY_FLAG};
 ghost use Rattle.packet_head.specs.Header.{pd_of, reply_of, address_answer, sqn_of, next_of, sqn_answer, control, control_of, control_answer, encode_of, encoded_answer};

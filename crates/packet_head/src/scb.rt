@@ -1,4 +1,5 @@
-// The security block that may follow the control byte.
+// The security block that may follow the control byte. `from_byte` and `as_byte` are the Rust's names, by which docs/PROMISES.md promises
+// them, and therefore no TryFrom or From.
 ghost use Rattle.std.specs.Prelude.{◌≡◌, ◌+◌};
 ghost use Rattle.packet_head.specs.Numbers.{SCB_HEADER_LEN};
 ghost use Rattle.packet_head.specs.Block.{type_of, has_mac, is_encrypted, is_handshake, scs_of, scs_answer, scb_of, scb_answer};

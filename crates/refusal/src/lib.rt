@@ -50,7 +50,7 @@ impl Refusal {
         n.number
     }
 
-    // The paper's table, a row for each case.
+    // The paper's table, a row for each case. No From: docs/PROMISES.md promises it by this name.
     pub fn numbered(self) -> Numbered
         ensures { result ≡ numbered_of self }
     {
