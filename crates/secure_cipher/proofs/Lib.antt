@@ -1,3 +1,4 @@
+mod Made
 pub mod PadLaws
 pub mod Turns
 pub mod MacLaws

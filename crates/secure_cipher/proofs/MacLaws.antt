@@ -4,8 +4,10 @@ use mathlib.Core.Path.{◌≡◌, refl, sym, ap, ap₂, ◌∙◌}
 use mathlib.Core.List.{List, [], ◌∷◌, ◌++◌}
 use Prim.Native.Nat.{ℕ, zero, suc, ◌+◌, ◌-◌, ◌*◌, ◌/◌, ◌≤◌, ◌<◌}
 use native.Mathlib.Omega.{arith}
-use lib.ListN.{length, take, drop, length-drop}
+use lib.ListN.{length, take, drop, get_or, length-drop}
 use lib.Seq.{drop-drop, take-append-le, drop-append-le}
+use Rattle.std.specs.Simd.{first_chunks}
+use Rattle.std.proofs.Math.Seq.{drop-cons}
 use Rattle.laws.specs.Bytes.{Bytes, xorl}
 use Rattle.laws.specs.Blocks.{Block, Blocks, cut, blocks}
 use Rattle.laws.proofs.BlockLists.{block-xorl, length-blocks, blocks-blocks}
@@ -14,7 +16,6 @@ use Rattle.aes.proofs.Laws.{E-block}
 use Rattle.secure_cipher.specs.Pad.{pad_mac, pad_data, tail80}
 use Rattle.secure_cipher.specs.Mac.{key_for, mac_run, mac_of, mac_calls}
 use Rattle.secure_cipher.specs.Parts.{chained}
-use Rattle.secure_cipher.proofs.Turns.{blocks_left, cut_none, left_all, left_next, left_none}
 use Rattle.secure_cipher.proofs.PadLaws.{pad_mac_by, length-pad_mac, bytes-pad_mac}
 
 -- ---- by the definitions alone
@@ -47,31 +48,39 @@ pub mac-counted : (k₁ k₂ v l : List ℕ) → mac_calls (length l) ≡ (mac_o
 unfolding mac_calls
 mac-counted k₁ k₂ v l = sym (mac-steps k₁ k₂ v l)
 
--- ---- the blocks before the last, in a loop over a list s: i of n are done
+-- ---- the blocks before the last, in a loop over them
 
-chained_none : (k v : List ℕ) → chained k v [] ≡ v
+pub chain_none : (k v : List ℕ) (bs : List (List ℕ)) → length bs ≡ 0 → v ≡ chained k v bs
 unfolding chained
-chained_none k v = refl
+chain_none k v [] h = refl
+chain_none k v (b ∷ bs) h = absurd (omega arith)
 
 chained_cons : (k v b : List ℕ) (bs : List (List ℕ)) → chained k v (b ∷ bs) ≡ chained k (E k (xorl v b)) bs
 unfolding chained
 chained_cons k v b bs = refl
 
--- what the blocks that are left make of v
-abbrev pub chained_from : List ℕ → List ℕ → ℕ → ℕ → List ℕ → List ℕ
-chained_from k s n i v = chained k v (blocks_left s n i)
+pub chain_next : (k v c : List ℕ) (bs : List (List ℕ)) (i : ℕ) → i < length bs → c ≡ E k (xorl v (get_or bs i [])) → chained k c (drop (i + 1) bs) ≡ chained k v (drop i bs)
+chain_next k v c bs i h e =
+    let n : i + 1 ≡ suc i = omega arith in
+    rw (drop-cons bs i [] h, chained_cons, ← e, n)
 
-pub chain_zero : (k s : List ℕ) (n : ℕ) (v : List ℕ) → n ≡ 0 → v ≡ chained k v (cut n s)
-chain_zero k s n v h = sym (rw (h, cut_none) (chained_none k v))
+pub chain_end : (k v : List ℕ) (bs : List (List ℕ)) (i : ℕ) → length bs ≤ i → v ≡ chained k v (drop i bs)
+chain_end k v bs i h = chain_none k v (drop i bs) (length-drop i bs ∙ omega arith)
 
-pub chain_begin : (k s : List ℕ) (n : ℕ) (v : List ℕ) → chained_from k s n 0 v ≡ chained k v (cut n s)
-chain_begin k s n v = ap (chained k v) (left_all s n)
+-- the blocks as a slice is cut into them
+chunks_cut : (n : ℕ) (l : List ℕ) → first_chunks 16 n l ≡ cut n l
+unfolding cut
+chunks_cut zero l = refl
+chunks_cut (suc n) l = ap (λ (bs : List (List ℕ)). take 16 l ∷ bs) (chunks_cut n (drop 16 l))
 
-pub chain_step : (k s : List ℕ) (n i : ℕ) (v c : List ℕ) → i < n → c ≡ E k (xorl v (take 16 (drop (i * 16) s))) → chained_from k s n (i + 1) c ≡ chained_from k s n i v
-chain_step k s n i v c h e = rw (left_next s n i h, e, chained_cons)
+take-cut : (n m : ℕ) (l : List ℕ) → n ≤ m → take n (cut m l) ≡ cut n l
+unfolding cut
+take-cut zero m l h = refl
+take-cut (suc n) zero l h = absurd (omega arith)
+take-cut (suc n) (suc m) l h = ap (λ (bs : List (List ℕ)). take 16 l ∷ bs) (take-cut n m (drop 16 l) (omega arith))
 
-pub chain_end : (k s : List ℕ) (n i : ℕ) (v : List ℕ) → i ≡ n → v ≡ chained_from k s n i v
-chain_end k s n i v h = sym (ap (chained k v) (left_none s n i (omega arith)) ∙ chained_none k v)
+pub chunks_front : (n m : ℕ) (l : List ℕ) (bs : List (List ℕ)) → n ≤ m → bs ≡ first_chunks 16 m l → take n bs ≡ cut n l
+chunks_front n m l bs h e = ap (take n) (e ∙ chunks_cut m l) ∙ take-cut n m l h
 
 -- ---- the last block apart
 

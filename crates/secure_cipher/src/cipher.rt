@@ -9,6 +9,7 @@ ghost use Rattle.secure_cipher.specs.Parts.{bad_padding, Deciphered};
 
 use super::{block, pad};
 use refusal::Refusal;
+use std::array;
 
 // What a call answers, and how often it called the cipher.
 #[derive(Clone, Copy)]
@@ -20,11 +21,7 @@ pub struct Ciphered<T> {
 pub fn complement_icv(other_mac: [u8; 16]) -> [u8; 16]
     ensures { result ≡ compl other_mac }
 {
-    let mut out = [0u8; 16];
-    for i in 0..16 {
-        out[i] = !other_mac[i];
-    }
-    out
+    array::from_fn(|i| !other_mac[i])
 }
 
 // The block of s, padded as data, from `at` on.
@@ -32,10 +29,9 @@ fn data_block(s: &[u8], at: usize) -> [u8; 16]
     requires { (at % 16 ≡ 0) × (at ≤ length s.now) }
     ensures { result ≡ take 16 (drop at (pad_data s.now)) }
 {
-    if 16 <= s.len() - at {
-        block::block_at(s, at)
-    } else {
-        pad::last_data_block(s)
+    match s[at..].first_chunk() {
+        Some(whole) => *whole,
+        None => pad::last_data_block(s),
     }
 }
 

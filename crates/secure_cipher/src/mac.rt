@@ -15,20 +15,18 @@ pub struct ChainMac {
     pub calls: usize,
 }
 
-// The chain value after the first n blocks of s, each XORed in and enciphered with `key`. Of no block no key is made ready.
-fn chain(t: &aes::EncryptTables, key: [u8; 16], icv: [u8; 16], s: &[u8], n: usize) -> [u8; 16]
-    requires { (n * 16 ≤ length s.now) × (t.now ≡ encrypt_tables) }
-    ensures { result ≡ chained key icv (cut n s.now) }
+// The chain value after blocks, each XORed in and enciphered with `key`. Of no block no key is made ready.
+fn chain(t: &aes::EncryptTables, key: [u8; 16], icv: [u8; 16], blocks: &[[u8; 16]]) -> [u8; 16]
+    requires { t.now ≡ encrypt_tables }
+    ensures { result ≡ chained key icv blocks.now }
 {
-    if n == 0 {
+    if blocks.is_empty() {
         return icv;
     }
     let k = aes::encrypt_key(t, key);
     let mut v = icv;
-    for i in 0..n {
-        let x = block::xor(v, block::block_at(s, i * 16));
-        let c = aes::encrypt(t, &k, x);
-        v = c;
+    for b in blocks {
+        v = aes::encrypt(t, &k, block::xor(v, *b));
     }
     v
 }
@@ -48,7 +46,7 @@ fn last_mac_block(s: &[u8]) -> [u8; 16]
 pub fn cbc_mac(input: &[u8], icv: [u8; 16], s_mac1: [u8; 16], s_mac2: [u8; 16]) -> ChainMac
     ensures { mac_told result ≡ mac_of s_mac1 s_mac2 icv input.now }
 {
-    if input.len() == 0 {
+    if input.is_empty() {
         return ChainMac {
             full: icv,
             calls: 0,
@@ -56,7 +54,8 @@ pub fn cbc_mac(input: &[u8], icv: [u8; 16], s_mac1: [u8; 16], s_mac2: [u8; 16]) 
     }
     let t = aes::encrypt_tables();
     let before = (input.len() - 1) / 16;
-    let v = chain(&t, s_mac1, icv, input, before);
+    let (whole, _) = input.as_chunks::<16>();
+    let v = chain(&t, s_mac1, icv, &whole[..before]);
     let k = aes::encrypt_key(&t, s_mac2);
     let full = aes::encrypt(&t, &k, block::xor(v, last_mac_block(input)));
     ChainMac {

@@ -64,10 +64,9 @@ pub fn unpad_data(buf: &[u8]) -> Result<usize, Refusal>
 pub(crate) fn last_data_block(s: &[u8]) -> [u8; 16]
     ensures { result ≡ drop (length s.now / 16 * 16) (pad_data s.now) }
 {
-    let at = s.len() / 16 * 16;
-    let rest = s.len() - at;
+    let (_, rest) = s.as_chunks::<16>();
     let mut out = [0u8; 16];
-    slices::copy(&mut out, 0, &s[at..]);
-    out[rest] = 0x80;
+    slices::copy(&mut out, 0, rest);
+    out[rest.len()] = 0x80;
     out
 }
