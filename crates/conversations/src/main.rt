@@ -8,283 +8,227 @@
 mod print;
 mod shake;
 
-use channel::Transferred;
-use packet_head::{Address, Sqn, SqnAnswer};
-use print::{put, put_number, put_open, put_outcome, put_refused, put_yes};
-use refusal::LengthAnswer;
+use channel::{ToTransfer, Transferred};
+use packet_head::{Address, Sqn};
+use print::{put, put_open, put_refused, told};
+use refusal::Refusal;
 use secure_session::{End, Session};
-use secure_unseal::PlaceAnswer;
-use shake::{Ends, Room, shake};
+use shake::{Line, Numbers, shake};
 
-// What is asked of a sealed frame, its payload apart.
+// Both ends of a conversation.
 #[derive(Clone, Copy)]
-struct Asked {
-    who: End,
-    sqn: u8,
-    encrypt: bool,
-    code: u8,
+pub(crate) struct Ends {
+    pub controller: Session,
+    pub reader: Session,
 }
 
-// The end that sent a frame and the one that took it.
-#[derive(Clone, Copy)]
-struct Passed {
-    from: Session,
-    to: Session,
+impl Ends {
+    fn fresh(scbk: [u8; 16]) -> Ends {
+        Ends {
+            controller: Session::new(scbk),
+            reader: Session::new_reader(scbk, *b"cabinet7"),
+        }
+    }
+
+    fn wipe(self) -> Ends {
+        Ends {
+            controller: self.controller.wipe(),
+            reader: self.reader.wipe(),
+        }
+    }
+}
+
+// The reader's frames have the reply flag on its address.
+fn asks(who: End, sqn: u8, encrypt: bool, code: u8) -> Result<ToTransfer, Refusal> {
+    let addr = match who {
+        End::Controller => 0x05,
+        End::Reader => 0x85,
+    };
+    Ok(ToTransfer {
+        who,
+        addr: Address::from_raw(addr),
+        sqn: Sqn::new(sqn)?,
+        encrypt,
+        code,
+    })
+}
+
+// The buffers that are lent to sealing and unsealing. They hold something else before.
+#[derive(Drop)]
+struct Lent<'a> {
+    out: &'a mut [u8],
+    work: &'a mut [u8],
 }
 
 // The frame on the line, as all can read it, and how often sealing called the cipher.
 fn tell_sealed(rt: &HostRuntime, t: Transferred, frame: &[u8]) {
-    let sealed = t.sealed;
-    match sealed {
+    match t.sealed {
         Ok(len) => {
-            put_number(rt, len);
-            put(rt, b" bytes, open:");
+            let _ = print!(rt; "{len} bytes, open:");
             put_open(rt, frame);
-            put(rt, b", sealed by ");
-            put_number(rt, t.seal_calls);
-            put(rt, b" calls");
+            let _ = print!(rt; ", sealed by {} calls", t.seal_calls);
         }
         Err(e) => {
-            put(rt, b"sealed:");
+            put(rt, "sealed:");
             put_refused(rt, e);
         }
     }
 }
 
 // What came of a frame at either end, and whether the payload is the one that was sent.
-fn tell<'a>(rt: &HostRuntime, t: Transferred, payload: &[u8], out: &'a [u8], work: &'a [u8]) {
-    let sealed = t.sealed;
-    let frame = channel::on_line(out, sealed);
+fn tell(rt: &HostRuntime, t: Transferred, payload: &[u8], out: &[u8], work: &[u8]) {
+    let frame = channel::on_line(out, t.sealed);
     tell_sealed(rt, t, frame);
-    let opened = t.opened;
-    match opened {
-        PlaceAnswer::Payload {
-            in_work,
-            start,
-            len,
-        } => {
-            put(rt, b", opened by ");
-            put_number(rt, t.open_calls);
-            put(rt, b" calls, as sent:");
-            let shown = secure_unseal::payload(frame, work, in_work, start, len);
-            put_yes(rt, check::same(shown, payload));
+    match t.opened {
+        Ok(place) => {
+            let same = secure_unseal::payload(frame, work, place) == payload;
+            let said = if same { "yes" } else { "no" };
+            let _ = print!(rt; ", opened by {} calls, as sent: {said}", t.open_calls);
         }
         Err(e) => {
-            put(rt, b", opened:");
+            put(rt, ", opened:");
             put_refused(rt, e);
         }
     }
-    put(rt, b"\n");
+    put(rt, "\n");
 }
 
 // One sealed frame from one end to the other, told.
-fn seal_and_open(
-    rt: &HostRuntime,
-    from: Session,
-    to: Session,
-    a: Asked,
-    sqn: Sqn,
-    addr: u8,
-    payload: &[u8],
-    out: &mut [u8],
-    work: &mut [u8],
-) -> Passed {
-    let who = a.who;
-    let address = Address::from_raw(addr);
-    let t = channel::transfer(
-        from, to, who, address, sqn, a.encrypt, a.code, payload, out, work,
-    );
-    tell(rt, t, payload, out, work);
-    let sender = t.from;
-    let peer = t.to;
-    Passed {
-        from: sender,
-        to: peer,
-    }
-}
-
-// The same through buffers that hold something else before.
-fn lend(
-    rt: &HostRuntime,
-    from: Session,
-    to: Session,
-    a: Asked,
-    sqn: Sqn,
-    addr: u8,
-    payload: &[u8],
-    room: Room,
-) -> Passed {
-    match room {
-        Room::Exact => {
-            let mut out = [0xEEu8; 46];
-            let mut work = [0xDDu8; 32];
-            seal_and_open(rt, from, to, a, sqn, addr, payload, &mut out, &mut work)
-        }
-        Room::More => {
-            let mut out = [0xEEu8; 99];
-            let mut work = [0xDDu8; 48];
-            seal_and_open(rt, from, to, a, sqn, addr, payload, &mut out, &mut work)
-        }
-        Room::Much => {
-            let mut out = [0xEEu8; 1440];
-            let mut work = [0xDDu8; 1440];
-            seal_and_open(rt, from, to, a, sqn, addr, payload, &mut out, &mut work)
-        }
-        Room::TooLittle => {
-            let mut out = [0xEEu8; 13];
-            let mut work = [0xDDu8; 32];
-            seal_and_open(rt, from, to, a, sqn, addr, payload, &mut out, &mut work)
-        }
-    }
-}
-
-// The reader's frames have the reply flag on its address.
-fn send(rt: &HostRuntime, ends: Ends, a: Asked, payload: &[u8], room: Room) -> Ends {
-    let c = ends.controller;
-    let r = ends.reader;
-    let who = a.who;
-    let sqn = match Sqn::new(a.sqn) {
-        Ok(n) => n,
-        Err(e) => {
-            put(rt, b"not sent:");
-            put_refused(rt, e);
-            put(rt, b"\n");
-            return ends;
-        }
+fn send(rt: &HostRuntime, ends: Ends, asked: ToTransfer, payload: &[u8], lent: &mut Lent) -> Ends {
+    let (from, to) = match asked.who {
+        End::Controller => (ends.controller, ends.reader),
+        End::Reader => (ends.reader, ends.controller),
     };
-    match who {
-        End::Controller => {
-            let p = lend(rt, c, r, a, sqn, 0x05, payload, room);
-            let controller = p.from;
-            let reader = p.to;
-            Ends { controller, reader }
-        }
-        End::Reader => {
-            let p = lend(rt, r, c, a, sqn, 0x85, payload, room);
-            let controller = p.to;
-            let reader = p.from;
-            Ends { controller, reader }
-        }
-    }
-}
-
-fn asks(who: End, sqn: u8, encrypt: bool, code: u8) -> Asked {
-    Asked {
-        who,
-        sqn,
-        encrypt,
-        code,
-    }
+    let out = &mut *lent.out;
+    let work = &mut *lent.work;
+    let t = channel::transfer(from, to, asked, payload, out, work);
+    tell(rt, t, payload, out, work);
+    let (controller, reader) = match asked.who {
+        End::Controller => (t.from, t.to),
+        End::Reader => (t.to, t.from),
+    };
+    Ends { controller, reader }
 }
 
 // Each end sends twice in a row. The last frame but one finds no room at its sender: nothing goes over the line, and all goes on.
-fn talk(rt: &HostRuntime, ends: Ends, lamp: &[u8], badge: &[u8], room: Room) -> Ends {
-    let poll = asks(End::Controller, 1, false, 0x60);
-    let lit = asks(End::Controller, 2, true, 0x69);
-    let status = asks(End::Reader, 2, false, 0x48);
-    let card = asks(End::Reader, 2, true, 0x50);
-    let lost = asks(End::Controller, 3, false, 0x60);
-    let last = asks(End::Controller, 3, true, 0x60);
-    let e1 = send(rt, ends, poll, b"", room);
-    let e2 = send(rt, e1, lit, lamp, room);
-    let e3 = send(rt, e2, status, b"\x00\x01 closed", room);
-    let e4 = send(rt, e3, card, badge, room);
-    let e5 = send(rt, e4, lost, b"", Room::TooLittle);
-    send(rt, e5, last, b"", room)
+fn talk(
+    rt: &HostRuntime,
+    ends: Ends,
+    lamp: &[u8],
+    badge: &[u8],
+    lent: &mut Lent,
+) -> Result<Ends, Refusal> {
+    let poll = asks(End::Controller, 1, false, 0x60)?;
+    let lit = asks(End::Controller, 2, true, 0x69)?;
+    let status = asks(End::Reader, 2, false, 0x48)?;
+    let card = asks(End::Reader, 2, true, 0x50)?;
+    let lost = asks(End::Controller, 3, false, 0x60)?;
+    let last = asks(End::Controller, 3, true, 0x60)?;
+    let ends = send(rt, ends, poll, b"", lent);
+    let ends = send(rt, ends, lit, lamp, lent);
+    let ends = send(rt, ends, status, b"\x00\x01 closed", lent);
+    let ends = send(rt, ends, card, badge, lent);
+    let mut too_little = Lent {
+        out: &mut [0xEE; 13],
+        work: &mut *lent.work,
+    };
+    let ends = send(rt, ends, lost, b"", &mut too_little);
+    Ok(send(rt, ends, last, b"", lent))
 }
 
 // Ends whose handshake has failed: a wrong cryptogram each.
 fn failed(rt: &HostRuntime, ends: Ends) -> Ends {
-    put(rt, b"a handshake before:");
-    let controller = ends.controller;
-    let reader = ends.reader;
-    let asked = controller.challenge(*b"random.A");
-    let told = reader.receive_challenge(*b"random.A", *b"random.B");
-    let challenged = asked.session;
-    let derived = told.session;
-    let met = challenged.receive_ccrypt(*b"cabinet7", *b"random.B", [0; 16]);
-    let last = derived.receive_scrypt([0; 16]);
-    let client = met.outcome;
-    let server = last.outcome;
-    put_outcome(rt, client);
-    put_outcome(rt, server);
-    put(rt, b"\n");
-    let c = met.session;
-    let r = last.session;
+    put(rt, "a handshake before:");
+    let asked = ends.controller.challenge(*b"random.A");
+    let met = ends.reader.receive_challenge(*b"random.A", *b"random.B");
+    let known = asked
+        .session
+        .receive_ccrypt(*b"cabinet7", *b"random.B", [0; 16]);
+    let last = met.session.receive_scrypt([0; 16]);
+    let _ = told(rt, known.answer);
+    let _ = told(rt, last.answer);
+    put(rt, "\n");
     Ends {
-        controller: c,
-        reader: r,
+        controller: known.session,
+        reader: last.session,
     }
 }
 
-fn fresh(scbk: [u8; 16]) -> Ends {
-    let controller = Session::new(scbk);
-    let reader = Session::new_reader(scbk, *b"cabinet7");
-    Ends { controller, reader }
-}
-
 // Fresh ends, and buffers just long enough for the largest frame and for the longest encrypted data.
-fn first(rt: &HostRuntime) {
-    put(rt, b"conversation 1\n");
-    let ends = fresh(*b"key of cabinet 7");
-    let ready = shake(
+fn first(rt: &HostRuntime) -> Result<Ends, Refusal> {
+    put(rt, "conversation 1\n");
+    let numbers = Numbers {
+        rnd_a: *b"random.A",
+        rnd_b: *b"random.B",
+        cuid: *b"cabinet7",
+    };
+    let ends = Ends::fresh(*b"key of cabinet 7");
+    let mut line = Line {
         rt,
-        ends,
-        *b"random.A",
-        *b"random.B",
-        *b"cabinet7",
-        Room::Exact,
-    );
-    talk(
-        rt,
-        ready,
-        b"a red lamp, 3 s",
-        b"badge 00112233 A",
-        Room::Exact,
-    );
+        crc: true,
+        out: &mut [0xEE; 43],
+    };
+    let ends = shake(&mut line, ends, numbers)?;
+    let mut lent = Lent {
+        out: &mut [0xEE; 46],
+        work: &mut [0xDD; 32],
+    };
+    talk(rt, ends, b"a red lamp, 3 s", b"badge 00112233 A", &mut lent)
 }
 
-// Another key, after a handshake that failed; the handshake's frames have a checksum.
-fn second(rt: &HostRuntime) -> Ends {
-    put(rt, b"conversation 2\n");
-    let ends = failed(rt, fresh(*b"another key here"));
-    let ready = shake(
+// Another key, after a handshake that failed, and longer buffers; the handshake's frames have a checksum.
+fn second(rt: &HostRuntime) -> Result<Ends, Refusal> {
+    put(rt, "conversation 2\n");
+    let numbers = Numbers {
+        rnd_a: *b"12345678",
+        rnd_b: *b"87654321",
+        cuid: *b"cabinet7",
+    };
+    let ends = failed(rt, Ends::fresh(*b"another key here"));
+    let mut line = Line {
         rt,
-        ends,
-        *b"12345678",
-        *b"87654321",
-        *b"cabinet7",
-        Room::More,
-    );
-    talk(
-        rt,
-        ready,
-        b"green, 10 times",
-        b"badge 99887766 Z",
-        Room::More,
-    )
+        crc: false,
+        out: &mut [0xEE; 99],
+    };
+    let ends = shake(&mut line, ends, numbers)?;
+    let mut lent = Lent {
+        out: &mut [0xEE; 99],
+        work: &mut [0xDD; 48],
+    };
+    talk(rt, ends, b"green, 10 times", b"badge 99887766 Z", &mut lent)
 }
 
-// The ends of the second, wiped: their key is zeros, and so is the reader's cUID.
-fn third(rt: &HostRuntime, used: Ends) {
-    put(rt, b"conversation 3\n");
-    let c = used.controller;
-    let r = used.reader;
-    let controller = c.wipe();
-    let reader = r.wipe();
-    let ends = Ends { controller, reader };
-    let ready = shake(rt, ends, *b"01234567", *b"abcdefgh", [0; 8], Room::Much);
-    talk(
+// The ends of the second, wiped: their key is zeros, and so is the reader's cUID. The buffers are much longer.
+fn third(rt: &HostRuntime, used: Ends) -> Result<Ends, Refusal> {
+    put(rt, "conversation 3\n");
+    let numbers = Numbers {
+        rnd_a: *b"01234567",
+        rnd_b: *b"abcdefgh",
+        cuid: [0; 8],
+    };
+    let mut line = Line {
         rt,
-        ready,
-        b"off for an hour",
-        b"badge 31415926 P",
-        Room::Much,
-    );
+        crc: true,
+        out: &mut [0xEE; 1440],
+    };
+    let ends = shake(&mut line, used.wipe(), numbers)?;
+    let mut lent = Lent {
+        out: &mut [0xEE; 1440],
+        work: &mut [0xDD; 1440],
+    };
+    talk(rt, ends, b"off for an hour", b"badge 31415926 P", &mut lent)
 }
 
+fn all(rt: &HostRuntime) -> Result<Ends, Refusal> {
+    first(rt)?;
+    let used = second(rt)?;
+    third(rt, used)
+}
+
+// None of the calls that have to be done is refused.
 fn main(rt: HostRuntime) {
-    first(&rt);
-    let used = second(&rt);
-    third(&rt, used);
+    if let Err(e) = all(&rt) {
+        put_refused(&rt, e);
+        put(&rt, "\n");
+    }
 }
