@@ -1,19 +1,16 @@
--- Two lists of one length compared byte by byte, the differences gathered in d: what is gathered and what is left tell whether they are equal.
+-- Two lists of one length compared byte by byte, the differences gathered in d: what is gathered tells whether they are equal.
 -- Assumes nothing.
 use mathlib.Core.Bool.{Bool, true, false, ◌&&◌, and_assoc}
 use mathlib.Core.List.{List, [], ◌∷◌}
-use mathlib.Core.Path.{◌≡◌, refl, sym, ap, ap₂, ◌∙◌}
-use Prim.Native.Nat.{ℕ, suc, ◌+◌, ◌≤◌, ◌<◌}
+use mathlib.Core.Path.{◌≡◌, refl, sym, ap, ◌∙◌}
+use Prim.Native.Nat.{ℕ, suc}
 use native.Mathlib.Omega.{arith}
 use lib.Bits.{bit_or, bit_xor, or_add_and, xor_add_and, and_le_l, and_le_r, xor_self}
 use lib.Dec.{eqb}
-use lib.ListN.{length, get_or, drop, length-drop}
+use lib.ListN.{length}
 use borrow.Author.Tests.{eq-eqb, ne_eqb, eqb-true, eqb-false}
 use Rattle.laws.specs.Bytes.{eql}
-use Rattle.laws.proofs.Lists.{drop_next, nothing}
-
-abbrev pub Left : List ℕ → List ℕ → ℕ → ℕ → Type 0
-Left a b d i = eqb d 0 && eql (drop i a) (drop i b) ≡ eql a b
+use Rattle.std.specs.List.{fold, zip}
 
 -- ---- one byte more
 
@@ -28,31 +25,21 @@ module _ (d x y : ℕ) where
   gather false u e f =
       ne_eqb (bit_or d (bit_xor x y)) 0 (λ o. eqb-false d 0 e (omega (arith, or_add_and d (bit_xor x y), and_le_r d (bit_xor x y))))
 
-eql_cons : (x y : ℕ) (a b : List ℕ) → eql (x ∷ a) (y ∷ b) ≡ eqb x y && eql a b
+and_true : (t : Bool) → t && true ≡ t
+and_true true = refl
+and_true false = refl
+
+abbrev pub gathered : ℕ → ℕ × ℕ → ℕ
+gathered d p = bit_or d (bit_xor p.0 p.1)
+
+pub alike : (a b : List ℕ) (d : ℕ) → length a ≡ length b → eqb (fold gathered d (zip a b)) 0 ≡ eqb d 0 && eql a b
 unfolding eql
-eql_cons x y a b = refl
-
-module _ (a b : List ℕ) where
-  pub left_step : (d i : ℕ) → i < length a → i < length b → Left a b d i → Left a b (bit_or d (bit_xor (get_or a i 0) (get_or b i 0))) (i + 1)
-  left_step d i ha hb h =
-      let x = get_or a i 0 in
-      let y = get_or b i 0 in
-      let r = eql (drop (i + 1) a) (drop (i + 1) b) in
-      ap (λ (t : Bool). t && r) (gather d x y (eqb d 0) (eqb x y) refl refl)
-      ∙ and_assoc (eqb d 0) (eqb x y) r
-      ∙ ap (λ (t : Bool). eqb d 0 && t) (sym (eql_cons x y (drop (i + 1) a) (drop (i + 1) b)) ∙ sym (ap₂ eql (drop_next a i ha) (drop_next b i hb)))
-      ∙ h
-
-  and_true : (t : Bool) → t ≡ t && eql [] []
-  unfolding eql
-  and_true true = refl
-  and_true false = refl
-
-  pub left_end : (d i : ℕ) → length a ≤ i → length b ≤ i → Left a b d i → eqb d 0 ≡ eql a b
-  left_end d i ha hb h =
-      let p : [] ≡ drop i a = nothing (drop i a) (omega (arith, length-drop i a)) in
-      let q : [] ≡ drop i b = nothing (drop i b) (omega (arith, length-drop i b)) in
-      and_true (eqb d 0) ∙ ap (λ (t : Bool). eqb d 0 && t) (ap₂ eql p q) ∙ h
+alike [] [] d h = sym (and_true (eqb d 0))
+alike [] (y ∷ b) d h = absurd (omega arith)
+alike (x ∷ a) [] d h = absurd (omega arith)
+alike (x ∷ a) (y ∷ b) d h =
+    alike a b (bit_or d (bit_xor x y)) (omega arith) ∙ ap (λ (t : Bool). t && eql a b) (gather d x y (eqb d 0) (eqb x y) refl refl)
+    ∙ and_assoc (eqb d 0) (eqb x y) (eql a b)
 
 -- lists of different lengths differ
 and_false : (t u : Bool) → false ≡ u → false ≡ t && u

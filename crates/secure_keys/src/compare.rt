@@ -6,13 +6,9 @@ ghost use Rattle.laws.specs.Bytes.{eql};
 pub fn same(a: &[u8], b: &[u8]) -> bool
     ensures { result ≡ eql a.now b.now }
 {
-    let n = a.len();
-    if b.len() != n {
-        return false;
-    }
-    let mut d = 0u8;
-    for i in 0..n {
-        d = d | (a[i] ^ b[i]);
-    }
-    d == 0
+    a.len() == b.len()
+        && a.iter()
+            .zip(b)
+            .fold(0u8, |differences, (x, y)| differences | (x ^ y))
+            == 0
 }

@@ -21,9 +21,10 @@ pub fn aes128_decrypt(key: [u8; 16], block: [u8; 16]) -> [u8; 16]
 fn key_template(tag: u8, a: [u8; 8]) -> [u8; 16]
     ensures { result ≡ template tag a }
 {
-    [
-        1, tag, a[0], a[1], a[2], a[3], a[4], a[5], 0, 0, 0, 0, 0, 0, 0, 0,
-    ]
+    let mut block = [0; 16];
+    block[..2].copy_from_slice(&[1, tag]);
+    block[2..8].copy_from_slice(&a[..6]);
+    block
 }
 
 // The key of a tag, under SCBK made ready.
@@ -62,24 +63,27 @@ impl SessionKeys {
 fn joined(a: [u8; 8], b: [u8; 8]) -> [u8; 16]
     ensures { result ≡ a ++ b }
 {
-    [
-        a[0], a[1], a[2], a[3], a[4], a[5], a[6], a[7], b[0], b[1], b[2], b[3], b[4], b[5], b[6],
-        b[7],
-    ]
+    let mut both = [0; 16];
+    both[..8].copy_from_slice(&a);
+    both[8..].copy_from_slice(&b);
+    both
 }
 
+#[tactic(auto, unfolding(crate::specs::Keys::client_of))]
 pub fn client_cryptogram(s_enc: [u8; 16], rnd_a: [u8; 8], rnd_b: [u8; 8]) -> [u8; 16]
     ensures { result ≡ client_of s_enc rnd_a rnd_b }
 {
     aes128_encrypt(s_enc, joined(rnd_a, rnd_b))
 }
 
+#[tactic(auto, unfolding(crate::specs::Keys::server_of))]
 pub fn server_cryptogram(s_enc: [u8; 16], rnd_a: [u8; 8], rnd_b: [u8; 8]) -> [u8; 16]
     ensures { result ≡ server_of s_enc rnd_a rnd_b }
 {
     aes128_encrypt(s_enc, joined(rnd_b, rnd_a))
 }
 
+#[tactic(auto, unfolding(crate::specs::Keys::first_of))]
 pub fn initial_rmac(s_mac1: [u8; 16], s_mac2: [u8; 16], server: [u8; 16]) -> [u8; 16]
     ensures { result ≡ first_of s_mac1 s_mac2 server }
 {
@@ -90,9 +94,10 @@ pub fn initial_rmac(s_mac1: [u8; 16], s_mac2: [u8; 16], server: [u8; 16]) -> [u8
 fn complement(a: [u8; 8]) -> [u8; 8]
     ensures { result ≡ compl a }
 {
-    [!a[0], !a[1], !a[2], !a[3], !a[4], !a[5], !a[6], !a[7]]
+    a.map(|byte| !byte)
 }
 
+#[tactic(auto, unfolding(crate::specs::Keys::legacy_of))]
 pub fn diversify_scbk_legacy(mk: [u8; 16], cuid: [u8; 8]) -> [u8; 16]
     ensures { result ≡ legacy_of mk cuid }
 {

@@ -1,9 +1,18 @@
--- `secure_keys::crypto::complement` meets its contract: its bytes, written out.
-use native.Mathlib.Omega.{arith}
+-- Each byte of the array is turned.
+use Rattle.std.proofs.Common.{◌≡◌, ◌-◌, ◌<◌, get_or, sym, ◌∙◌, arith, rules}
+use lib.Seq.{ext_get_or}
 use Rattle.laws.specs.Bytes.{compl}
-use Rattle.std.proofs.lemmas.Grind.{common_steps}
+use Rattle.laws.proofs.ByteLists.{length-compl, get_or-compl}
 use Rattle.secure_keys.proofs.crypto.complement.Goals as goal
 
 pub returns : goal.returns
-unfolding compl
-returns c = grind (arith, common_steps)
+returns c =
+    let a = c.args.a in
+    let m = c.map.ensures.items in
+    ext_get_or 0 c.map.result (compl a) (omega (arith, m.long, length-compl a))
+    (λ k h.
+    let lt : k < 8 = omega (arith, m.long) in
+    let p = m.at k 0 0 lt in
+    let q = p.2 in
+    let e : get_or c.map.result k 0 ≡ 255 - get_or a k 0 = search rules in
+    e ∙ sym (get_or-compl a k (omega arith)))

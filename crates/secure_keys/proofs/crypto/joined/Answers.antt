@@ -1,10 +1,12 @@
--- `secure_keys::crypto::joined` meets its contract: its bytes, written out.
-use mathlib.Core.List.{List, ◌++◌}
-use mathlib.Core.Path.{ap₂}
-use Prim.Native.Nat.{ℕ}
-use native.Mathlib.Omega.{arith}
-use Rattle.laws.proofs.Listed.{all_listed}
+-- Both halves are written.
+use Rattle.std.proofs.Common.{List, ◌∷◌, [], ℕ, ◌++◌, ap, ap₂, ◌∙◌, append-nil, drop_of_length-le, drop, arith, length-append, length-drop}
+use lib.Seq.{take_at}
 use Rattle.secure_keys.proofs.crypto.joined.Goals as goal
 
 pub returns : goal.returns
-returns c = ap₂ (λ (x y : List ℕ). x ++ y) (all_listed c.args.a 8 (omega arith)) (all_listed c.args.b 8 (omega arith))
+returns c =
+    let x = c.copy_from_slice.new.self in
+    let z : List ℕ = 0 ∷ 0 ∷ 0 ∷ 0 ∷ 0 ∷ 0 ∷ 0 ∷ 0 ∷ [] in
+    let y = c.copy_from_slice-2.new.self in
+    ap₂ (λ (p q : List ℕ). p ++ q) (take_at x z 8 (omega arith) ∙ c.copy_from_slice.ensures.after)
+    (ap (λ (r : List ℕ). y ++ r) (drop_of_length-le (drop 8 (x ++ z)) {i = 8} (omega (arith, length-drop 8 (x ++ z), length-append x z))) ∙ append-nil y ∙ c.copy_from_slice-2.ensures.after)
