@@ -1,29 +1,23 @@
 // CIPHER and INVCIPHER, FIPS 197, 5.1 and 5.3.
-ghost use Rattle.std.specs.Prelude.{◌≡◌, ◌≤◌};
+ghost use Rattle.std.specs.Prelude.{◌≡◌};
 ghost use Rattle.aes.specs.Cipher.{E, D};
 ghost use Rattle.aes.specs.Ready.{enciphered, deciphered};
-ghost use Rattle.aes.specs.Halves.{bytes_of, round_key, schedule_of};
+ghost use Rattle.aes.specs.Halves.{schedule_of};
 
 use crate::direction::{Deciphering, Direction, Enciphering};
 use crate::ready;
 use crate::round::Halves;
 
-fn key_at(keys: &[Halves; 11], r: usize) -> Halves
-    requires { r ≤ 10 }
-    ensures { bytes_of result ≡ round_key (schedule_of keys.now) r }
-{
-    keys[r]
-}
-
 // Ten rounds in a direction, of which the last mixes no columns.
 fn cipher<D: Direction>(t: &[u8; 256], keys: &[Halves; 11], block: [u8; 16]) -> [u8; 16]
     ensures { result ≡ D.whole t.now (schedule_of keys.now) block }
 {
-    let mut s = Halves::from(block) ^ key_at(keys, D::key_number(0));
+    let mut s = Halves::from(block) ^ D::round_key(keys, 0);
+    // a number, and no iterator over the keys: the direction says which key a turn takes
     for turn in 1..10 {
-        s = D::mix(D::substitute(t, s), key_at(keys, D::key_number(turn)));
+        s = D::mix(D::substitute(t, s), D::round_key(keys, turn));
     }
-    let last = key_at(keys, D::key_number(10));
+    let last = D::round_key(keys, 10);
     (D::substitute(t, s) ^ last).into()
 }
 
@@ -42,6 +36,7 @@ pub fn decrypt(t: &ready::DecryptTables, k: &ready::DecryptKey, block: [u8; 16])
 }
 
 // One block under a key.
+#[tactic(auto, using(crate::proofs::Laws::enciphers))]
 pub fn encrypt_block(key: [u8; 16], block: [u8; 16]) -> [u8; 16]
     ensures { result ≡ E key block }
 {
@@ -50,6 +45,7 @@ pub fn encrypt_block(key: [u8; 16], block: [u8; 16]) -> [u8; 16]
     encrypt(&t, &k, block)
 }
 
+#[tactic(auto, using(crate::proofs::Laws::deciphers))]
 pub fn decrypt_block(key: [u8; 16], block: [u8; 16]) -> [u8; 16]
     ensures { result ≡ D key block }
 {

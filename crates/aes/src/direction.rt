@@ -4,7 +4,7 @@ ghost use Rattle.std.specs.Prelude.{◌≡◌, ◌≤◌, ◌-◌, List, ℕ};
 ghost use Rattle.aes_field.specs.Sbox.{SBOX, INVSBOX};
 ghost use Rattle.aes.specs.State.{sub_bytes, shift_rows, inv_shift_rows, mix_columns, inv_mix_columns};
 ghost use Rattle.aes.specs.Cipher.{cipher, inv_cipher};
-ghost use Rattle.aes.specs.Halves.{bytes_of, added, round_key, ten_rounds};
+ghost use Rattle.aes.specs.Halves.{bytes_of, schedule_of, added, round_key, ten_rounds};
 ghost use Rattle.aes.specs.Whole.{forth_whole, back_whole};
 
 use crate::round::{self, Halves};
@@ -35,10 +35,9 @@ pub(crate) trait Direction {
     fn mix(s: Halves, key: Halves) -> Halves
         ensures { bytes_of result ≡ mixed (bytes_of s) (bytes_of key) };
 
-    fn key_number(turn: usize) -> usize
+    fn round_key(keys: &[Halves; 11], turn: usize) -> Halves
         requires { turn ≤ 10 }
-        ensures number { result ≡ key_number turn }
-        ensures bound { result ≤ 10 };
+        ensures { bytes_of result ≡ round_key (schedule_of keys.now) (key_number turn) };
 
     ghost is_whole: { (t w b : List ℕ) → ten_rounds (substituted t) mixed (λ turn. round_key w (key_number turn)) b ≡ whole t w b };
 }
@@ -64,6 +63,7 @@ impl Direction for Enciphering {
         sbox::forward_table()
     }
 
+    #[tactic(auto, using(crate::proofs::InHalves::shift_halves))]
     fn substitute(t: &[u8; 256], s: Halves) -> Halves {
         Halves {
             first: round::substitute(t, s, s),
@@ -71,6 +71,7 @@ impl Direction for Enciphering {
         }
     }
 
+    #[tactic(auto, using(crate::proofs::InHalves::mix_halves))]
     fn mix(s: Halves, key: Halves) -> Halves {
         let mixed = Halves {
             first: field::mix(s.first),
@@ -79,8 +80,9 @@ impl Direction for Enciphering {
         mixed ^ key
     }
 
-    fn key_number(turn: usize) -> usize {
-        turn
+    #[tactic(auto, using(crate::proofs::RoundKeys::key_of))]
+    fn round_key(keys: &[Halves; 11], turn: usize) -> Halves {
+        keys[turn]
     }
 }
 
@@ -105,6 +107,7 @@ impl Direction for Deciphering {
         sbox::inverse_table()
     }
 
+    #[tactic(auto, using(crate::proofs::InHalves::unshift_halves))]
     fn substitute(t: &[u8; 256], s: Halves) -> Halves {
         Halves {
             first: round::substitute(t, s, s.swapped()),
@@ -112,6 +115,7 @@ impl Direction for Deciphering {
         }
     }
 
+    #[tactic(auto, using(crate::proofs::InHalves::unmix_halves))]
     fn mix(s: Halves, key: Halves) -> Halves {
         let keyed = s ^ key;
         Halves {
@@ -120,7 +124,8 @@ impl Direction for Deciphering {
         }
     }
 
-    fn key_number(turn: usize) -> usize {
-        10 - turn
+    #[tactic(auto, using(crate::proofs::RoundKeys::key_of))]
+    fn round_key(keys: &[Halves; 11], turn: usize) -> Halves {
+        keys[10 - turn]
     }
 }

@@ -65,18 +65,21 @@ pub type EncryptKey = Key<Enciphering>;
 
 pub type DecryptKey = Key<Deciphering>;
 
+#[tactic(auto, unfolding(crate::specs::Ready::encrypt_tables))]
 pub fn encrypt_tables() -> EncryptTables
     ensures { result ≡ encrypt_tables }
 {
     Enciphering::table().into()
 }
 
+#[tactic(auto, unfolding(crate::specs::Ready::decrypt_tables))]
 pub fn decrypt_tables() -> DecryptTables
     ensures { result ≡ decrypt_tables }
 {
     Deciphering::table().into()
 }
 
+#[tactic(auto, unfolding(crate::specs::Ready::encrypt_key))]
 pub fn encrypt_key(t: &EncryptTables, key: [u8; 16]) -> EncryptKey
     ensures { result ≡ encrypt_key t.now key }
 {
@@ -84,6 +87,7 @@ pub fn encrypt_key(t: &EncryptTables, key: [u8; 16]) -> EncryptKey
 }
 
 // A key is made ready with the tables of enciphering both ways.
+#[tactic(auto, unfolding(crate::specs::Ready::decrypt_key))]
 pub fn decrypt_key(t: &EncryptTables, key: [u8; 16]) -> DecryptKey
     ensures { result ≡ decrypt_key t.now key }
 {

@@ -40,6 +40,7 @@ impl BitXor for Halves {
 
     ghost bitxor_gives = { λ s k r. bytes_of r ≡ added (bytes_of s) (bytes_of k) };
 
+    #[tactic(auto, using(crate::proofs::InHalves::add_halves))]
     fn bitxor(self, key: Halves) -> Halves {
         Halves {
             first: self.first ^ key.first,
@@ -70,6 +71,7 @@ pub(crate) fn sub(t: &[u8; 256], x: u64) -> u8
 pub(crate) fn substitute(t: &[u8; 256], even: Halves, odd: Halves) -> u64
     ensures { unpacked 8 result ≡ shifted t.now (unpacked 8 even.first) (unpacked 8 even.second) (unpacked 8 odd.first) (unpacked 8 odd.second) }
 {
+    // no loop over a list of places: each line is one, and its half with it
     field::pack([
         sub(t, even.first),
         sub(t, odd.first >> 40),

@@ -47,6 +47,7 @@ pub(crate) fn expand(t: &[u8; 256], key: [u8; 16]) -> [Halves; 11]
 {
     let mut keys = [Halves::from(key); 11];
     let mut c = 1u8;
+    // an index, and no iterator: a key is made from the one that was written before it
     for r in 0..10 {
         keys[r + 1] = next(t, keys[r], c);
         c = field::twice(c);

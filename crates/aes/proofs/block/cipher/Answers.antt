@@ -21,7 +21,7 @@ loop-turn-preserved g c =
         omega (arith, c.loop-turn-test.true),
         c.mix-s.ensures
             ∙ ap₂ d.mixed (c.substitute.ensures ∙ ap (d.substituted c.args.t.now) l.invariant.1.1)
-            (c.key_at-in-loop-turn.ensures ∙ ap (round_key w) c.key_number-in-loop-turn.ensures.number)
+            c.round_key-in-loop-turn.ensures
             ∙ sym (turns-next (d.substituted c.args.t.now) d.mixed (λ (turn : ℕ). round_key w (d.key_number turn)) _ l.turn l.invariant.0),
       ),
     )
@@ -36,10 +36,10 @@ returns g c =
     let l = c.loop-turn in
     let ten : l.turn ≡ 10 = le_antisymm l.invariant.1.0 c.loop-turn-test.false in
     let begin : bytes_of c.bitxor-s.result ≡ added c.args.block (key 0) =
-    c.bitxor-s.ensures ∙ ap₂ added c.from.ensures (c.key_at.ensures ∙ ap (round_key w) c.key_number.ensures.number) in
+    c.bitxor-s.ensures ∙ ap₂ added c.from.ensures c.round_key.ensures in
     c.into.ensures
     ∙ c.bitxor.ensures
     ∙ ap₂ added
     (c.substitute-2.ensures ∙ ap (d.substituted t) (l.invariant.1.1 ∙ ap₂ (λ (n : ℕ) (s : List ℕ). turns (d.substituted t) d.mixed key (n - 1) s) ten begin))
-    (c.key_at-last.ensures ∙ ap (round_key w) c.key_number-2.ensures.number)
+    c.round_key-last.ensures
     ∙ g.met.D.Direction.is_whole t w c.args.block
