@@ -2,8 +2,8 @@
 -- Assumes nothing.
 use mathlib.Core.Path.{◌≡◌, refl}
 use Prim.Native.Nat.{ℕ, ◌<◌}
-use lib.Bits.{xor_comm, xor_self, xor_zero_r, xor_lt}
-use Rattle.laws.proofs.Xor.{xor_assoc, xor_left_comm, xor_swap, xor_cancel}
+use lib.Bits.{xor_assoc, xor_comm, xor_self, xor_zero_r, xor_lt}
+use Rattle.laws.proofs.Xor.{xor_left_comm, xor_swap, xor_cancel}
 use Rattle.aes_field.specs.Field.{◌⊕◌}
 
 pub ⊕_assoc : (a b c : ℕ) → (a ⊕ b) ⊕ c ≡ a ⊕ (b ⊕ c)

@@ -5,5 +5,4 @@ pub mod Listed
 pub mod ByteLists
 pub mod BlockLists
 pub mod Entries
-pub mod Fill
 pub mod Overwrite

@@ -1,39 +1,16 @@
 -- The laws of exclusive or that the library lacks.
 -- Assumes nothing.
-use mathlib.Core.Path.{◌≡◌, refl, sym, ap, ap₂, ◌∙◌}
-use Prim.Native.Nat.{ℕ, zero, suc, ◌+◌, ◌*◌, ◌/◌, ◌%◌, ◌^◌, ◌<◌}
-use native.Mathlib.Nat.{add-zero, le_of_suc-le-suc, not-suc-le-zero, mod-lt}
-use lib.Arith.{bin_ind}
-use lib.Dec.{lit<}
+use mathlib.Core.Path.{◌≡◌, sym, ap, ap₂, ◌∙◌}
+use Prim.Native.Nat.{ℕ, zero, suc, ◌+◌, ◌*◌, ◌^◌, ◌<◌}
+use native.Mathlib.Nat.{add-zero, le_of_suc-le-suc, not-suc-le-zero}
 use lib.Pow.{pow_pos}
-use lib.Bits.{bit_xor, differ, xor_step, xor_shr, xor_mod, xor_comm, xor_self, xor_zero_r, xor_block}
+use lib.Bits.{bit_xor, xor_assoc, xor_comm, xor_self, xor_zero_r, xor_block}
 
 -- what holds of 0 and of 1 holds of a bit
 pub bit_ind : (P : ℕ → Type 0) → P 0 → P 1 → (x : ℕ) → x < 2 → P x
 bit_ind P p q zero h = p
 bit_ind P p q (suc zero) h = q
 bit_ind P p q (suc (suc x)) h = absurd (not-suc-le-zero (le_of_suc-le-suc (le_of_suc-le-suc h)))
-
-abbrev Same3 : ℕ → ℕ → ℕ → Type 0
-Same3 x y z = differ (bit_xor x y) z ≡ differ x (bit_xor y z)
-
-bits3 : (x : ℕ) → x < 2 → (y : ℕ) → y < 2 → (z : ℕ) → z < 2 → Same3 x y z
-bits3 =
-    bit_ind (λ x. (y : ℕ) → y < 2 → (z : ℕ) → z < 2 → Same3 x y z)
-    (bit_ind (λ y. (z : ℕ) → z < 2 → Same3 0 y z) (bit_ind (Same3 0 0) refl refl) (bit_ind (Same3 0 1) refl refl))
-    (bit_ind (λ y. (z : ℕ) → z < 2 → Same3 1 y z) (bit_ind (Same3 1 0) refl refl) (bit_ind (Same3 1 1) refl refl))
-
-low : (x : ℕ) → x % 2 < 2
-low x = mod-lt x (lit< tt)
-
-pub xor_assoc : (a b c : ℕ) → bit_xor (bit_xor a b) c ≡ bit_xor a (bit_xor b c)
-xor_assoc a =
-    bin_ind (λ (n : ℕ). (b c : ℕ) → bit_xor (bit_xor n b) c ≡ bit_xor n (bit_xor b c)) (λ b c. refl)
-    (λ n ih b c. xor_step (bit_xor n b) c
-    ∙ ap₂ (λ (x y : ℕ). x * 2 + y)
-    (ap (λ (z : ℕ). bit_xor z (c / 2)) (xor_shr n b 1) ∙ ih (b / 2) (c / 2) ∙ ap (bit_xor (n / 2)) (sym (xor_shr b c 1)))
-    (ap (λ (z : ℕ). differ z (c % 2)) (xor_mod n b 1) ∙ bits3 (n % 2) (low n) (b % 2) (low b) (c % 2) (low c) ∙ ap (differ (n % 2)) (sym (xor_mod b c 1)))
-    ∙ sym (xor_step n (bit_xor b c))) a
 
 pub xor_left_comm : (a b c : ℕ) → bit_xor a (bit_xor b c) ≡ bit_xor b (bit_xor a c)
 xor_left_comm a b c = sym (xor_assoc a b c) ∙ ap (λ (x : ℕ). bit_xor x c) (xor_comm a b) ∙ xor_assoc b a c

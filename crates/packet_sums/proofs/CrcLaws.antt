@@ -1,10 +1,10 @@
 -- The CRC: bounds, lists joined, what a loop from the front has left, and linearity.
 -- Assumes nothing.
 use Rattle.std.proofs.Common.{◌≡◌, ℕ, zero, suc, ◌*◌, ◌/◌, ◌%◌, ◌<◌, Bool, true, false, cond, eqb, List, [], ◌∷◌, ◌++◌, length, get_or, take, drop, sym, refl, ap, ◌∙◌, ap₂, mod-lt, arith, lit<, take-append-drop, take-suc}
-use lib.Bits.{bit_xor, xor_zero_r, xor_shr, xor_mod, xor_lt}
+use lib.Bits.{bit_xor, xor_assoc, xor_zero_r, xor_shr, xor_mod, xor_lt}
 use lib.ListN.{length-replicate}
 use Rattle.laws.specs.Bytes.{xorl, zeros}
-use Rattle.laws.proofs.Xor.{bit_ind, xor_assoc, xor_swap, xor_shl}
+use Rattle.laws.proofs.Xor.{bit_ind, xor_swap, xor_shl}
 use Rattle.packet_sums.specs.Crc.{polynomial, crc_start, reduce, crc_bit, crc_bits, crc_byte, crc_from, crc_of}
 use Rattle.packet_sums.proofs.Linear.{Linear, linear_same, linear_after}
 
