@@ -39,7 +39,7 @@ fn handshake(
     })
 }
 
-// The badge's number, as the controller reads it in what the reader sealed; none where it is none.
+// The badge's number as the controller reads it in what the reader sealed, if it has one.
 fn number_across(ends: Ends, badge: &[u8]) -> Result<Option<u64>, Refusal> {
     let reply = ToSeal {
         addr: Address::from_raw(0x85),

@@ -81,7 +81,7 @@ fn seal(case: Case) -> bool {
     })
 }
 
-// A call's name alone is not covered by the proofs, so each stands in a closure.
+// Closures and not the calls' names, which were tried: the name of another crate's function gets no proof.
 pub(crate) fn agrees(op: u8, case: Case) -> bool {
     match op {
         12 => build(case, |packet, block, data, mac, out| {

@@ -30,7 +30,8 @@ pub(crate) struct Case<'a> {
     pub wanted: Wanted<'a>,
 }
 
-// Whether the call's answer is the one wanted. A number that no call has is taken for that of a call of the same kind.
+// Whether the call's answer is the one wanted. A number that no call has is taken for that of a call of the same kind. The numbers are
+// the input's, and each stands beside the call that it asks; names between the two would say every call twice.
 fn agrees(op: u8, case: Case) -> bool {
     match op {
         0..=13 => frames::agrees(op, case),
