@@ -1,11 +1,15 @@
--- An outcome as C is told it.
+-- A yes or a refusal as C is told it, whatever was given.
 -- Assumes nothing.
 use mathlib.Core.Path.{◌≡◌, refl}
-use Rattle.refusal.specs.declared.Outcome.{Outcome}
-use Rattle.refusal.specs.Reading.{outcome_answer}
-use Rattle.crossing.specs.Answers.{c_yes, c_outcome}
+use Rattle.std.specs.Prelude.{Result, Ok, Err, ⊤}
+use Rattle.refusal.specs.declared.Refusal.{Refusal}
+use Rattle.refusal.specs.Reading.{answer}
+use Rattle.crossing.specs.Answers.{c_answer, c_yes, c_outcome}
 
--- an outcome says yes or the refusal, whatever stands beside it
-pub told-outcome : {A : Type 0} (o : Outcome) (a : A) → c_outcome o ≡ c_yes (outcome_answer o a)
-told-outcome (Ok tt) a = refl
-told-outcome (Err e) a = refl
+pub told-yes : {A B : Type 0} (f : A → B) (r : Result A Refusal) → c_answer (answer (λ (a : A). 0) r) ≡ c_yes (answer f r)
+told-yes f (Ok a) = refl
+told-yes f (Err e) = refl
+
+-- an outcome is told as its one number, which is 0 for a yes
+pub told-outcome : (o : Result ⊤ Refusal) → c_answer (answer (λ (yes : ⊤). 0) o) ≡ c_outcome o
+told-outcome o = told-yes (λ yes. tt) o

@@ -8,10 +8,8 @@ use lib.Dec.{ltb}
 use Rattle.laws.specs.Answer.{Answer, Answer.given, Answer.refused, refuse_if}
 use Rattle.laws.proofs.Answers.{given_inj}
 use Rattle.packet_head.specs.Header.{sqn_of}
-use Rattle.packet_head.specs.declared.header.Address.{Address}
-use Rattle.packet_head.specs.declared.header.Sqn.{Sqn}
 use Rattle.secure_seal.specs.Seal.{asked_of, frame_test}
-use Rattle.secure_seal.specs.declared.frame.Direction.{Direction}
+use Rattle.secure_seal.specs.declared.frame.ToSeal.{ToSeal}
 use Rattle.crossing.specs.Sealing.{direction_arg, asked_arg}
 use Rattle.crossing.specs.declared.seal.CToSeal.{CToSeal}
 
@@ -30,6 +28,7 @@ unfolding refuse_if
 sqn_kept true n m e = cc
 sqn_kept false n m e = given_inj m n e
 
-pub asked_same : (p : CToSeal) (x : List ℕ) (a : Address) (n : Sqn) (d : Direction) → a.0 ≡ p.addr → given n.0 ≡ sqn_of p.sqn → d ≡ direction_arg p.from_reader → asked_of a n d p.encrypt p.code x ≡ asked_arg p x
+pub asked_same : (p : CToSeal) (x : List ℕ) (w : ToSeal) → w.addr.0 ≡ p.addr → given w.sqn.0 ≡ sqn_of p.sqn → w.direction ≡ direction_arg p.from_reader
+    → w.encrypt ≡ p.encrypt → w.code ≡ p.code → asked_of w x ≡ asked_arg p x
 unfolding sqn_of
-asked_same p x a n d ea en ed = rw (ea, sqn_kept _ p.sqn n.0 en, ed)
+asked_same p x w ea en ed ee ec = rw (ea, sqn_kept _ p.sqn w.sqn.0 en, ed, ee, ec)

@@ -1,4 +1,3 @@
-mod Ends
 pub mod Answered
 pub mod Asked
 pub mod InAndOut

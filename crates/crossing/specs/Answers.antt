@@ -1,8 +1,7 @@
 -- An answer as C has it: 0 and what was asked for, or the refusal's number and what it carries.
 -- Assumes nothing.
-use Rattle.std.specs.Prelude.{ℕ, false, List}
+use Rattle.std.specs.Prelude.{ℕ, false, List, Result, ⊤}
 use Rattle.laws.specs.Answer.{Answer, Answer.given, Answer.refused}
-use Rattle.refusal.specs.declared.Outcome.{Outcome}
 use Rattle.refusal.specs.declared.Refusal.{Refusal}
 use Rattle.refusal.specs.Paper.{number_of, values_of, value_a, value_b}
 use Rattle.refusal.specs.Reading.{outcome_answer}
@@ -28,7 +27,7 @@ abbrev pub c_yes : {A : Type 0} → Answer A → CAnswer
 c_yes (given a) = c_given 0
 c_yes (refused n vs) = c_refused n vs
 
-abbrev pub c_outcome : Outcome → CAnswer
+abbrev pub c_outcome : Result ⊤ Refusal → CAnswer
 c_outcome o = c_yes (outcome_answer {A = Unit {0}} o tt)
 
 abbrev pub c_control : Answer Control → CControl

@@ -1,5 +1,6 @@
 -- What the cipher's calls answer, as C has it.
 -- Assumes nothing.
+use Rattle.std.specs.Prelude.{ℕ}
 use Rattle.refusal.specs.Reading.{length_answer}
 use Rattle.secure_keys.specs.declared.crypto.SessionKeys.{SessionKeys}
 use Rattle.secure_cipher.specs.declared.cipher.Ciphered.{Ciphered}
@@ -16,7 +17,7 @@ c_keys k = record { s_enc = k.s_enc; s_mac1 = k.s_mac1; s_mac2 = k.s_mac2 }
 abbrev pub c_done : Done → CCiphered
 c_done d = record { answer = c_answer d.answer; calls = d.steps }
 
-abbrev pub c_ciphered : Ciphered → CCiphered
+abbrev pub c_ciphered : Ciphered ℕ → CCiphered
 c_ciphered c = record { answer = c_answer (length_answer c.answer); calls = c.calls }
 
 abbrev pub c_chain : Mac → CChain

@@ -5,7 +5,7 @@ use Rattle.laws.specs.Answer.{Answer, Answer.given, Answer.refused}
 use Rattle.refusal.specs.Reading.{length_answer}
 use Rattle.secure_seal.specs.declared.frame.Direction.{Direction}
 use Rattle.secure_seal.specs.declared.frame.Direction.TheVariants.{AcuToPd, PdToAcu}
-use Rattle.secure_seal.specs.declared.frame.Sealed.{Sealed}
+use Rattle.secure_session.specs.declared.session.Processed.{Processed}
 use Rattle.secure_seal.specs.Seal.{Asked, SealDone}
 use Rattle.secure_unseal.specs.Unseal.{Place}
 use Rattle.crossing.specs.Answers.{c_given, c_refused, c_answer}
@@ -38,5 +38,5 @@ c_unsealed (refused m vs) n c = record { answer = c_refused m vs; in_work = fals
 
 -- ---- the code's kinds
 
-abbrev pub told_sealed : Sealed → CSealed
+abbrev pub told_sealed : Processed ℕ → CSealed
 told_sealed r = record { answer = c_answer (length_answer r.answer); calls = r.calls; session = c_session r.session }

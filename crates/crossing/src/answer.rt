@@ -1,9 +1,9 @@
 // An answer as C has it.
-ghost use Rattle.std.specs.Prelude.{◌≡◌};
-ghost use Rattle.refusal.specs.Reading.{length_answer};
-ghost use Rattle.crossing.specs.Answers.{c_given, c_refusal, c_answer, c_outcome};
+ghost use Rattle.std.specs.Prelude.{◌≡◌, ℕ};
+ghost use Rattle.refusal.specs.Reading.{answer};
+ghost use Rattle.crossing.specs.Answers.{c_given, c_refusal, c_answer};
 
-use refusal::{LengthAnswer, Outcome, Refusal};
+use refusal::{Numbered, Refusal};
 
 // 0 and what was asked for, or the refusal's number and what it carries.
 #[repr(C)]
@@ -14,39 +14,61 @@ pub struct CAnswer {
     pub b: usize,
 }
 
-fn told(refusal: u8, a: usize, b: usize) -> CAnswer
-    ensures { result ≡ record { refusal = refusal; a = a; b = b } }
-{
-    CAnswer { refusal, a, b }
+// What C is told of by one number.
+pub trait Told {
+    ghost number: { Self → ℕ };
+
+    fn number(self) -> usize
+        ensures { result ≡ number self };
+}
+
+impl Told for usize {
+    ghost number = { λ n. n };
+
+    fn number(self) -> usize {
+        self
+    }
+}
+
+// Yes, and no more.
+impl Told for () {
+    ghost number = { λ yes. 0 };
+
+    fn number(self) -> usize {
+        0
+    }
 }
 
 pub(crate) fn given(n: usize) -> CAnswer
     ensures { result ≡ c_given n }
 {
-    told(0, n, 0)
-}
-
-pub fn refused(e: Refusal) -> CAnswer
-    ensures { result ≡ c_refusal e }
-{
-    let n = e.numbered();
-    told(n.number, n.a, n.b)
-}
-
-pub fn length_c(a: LengthAnswer) -> CAnswer
-    ensures { result ≡ c_answer (length_answer a) }
-{
-    match a {
-        Ok(n) => given(n),
-        Err(e) => refused(e),
+    CAnswer {
+        refusal: 0,
+        a: n,
+        b: 0,
     }
 }
 
-pub fn outcome_c(o: Outcome) -> CAnswer
-    ensures { result ≡ c_outcome o }
-{
-    match o {
-        Ok(()) => given(0),
-        Err(e) => refused(e),
+impl From<Refusal> for CAnswer {
+    ghost from_gives = { λ e c. c ≡ c_refusal e };
+
+    fn from(e: Refusal) -> CAnswer {
+        let Numbered { number, a, b } = e.numbered();
+        CAnswer {
+            refusal: number,
+            a,
+            b,
+        }
+    }
+}
+
+impl<T: Told> From<Result<T, Refusal>> for CAnswer {
+    ghost from_gives = { λ r c. c ≡ c_answer (answer T.number r) };
+
+    fn from(r: Result<T, Refusal>) -> CAnswer {
+        match r {
+            Ok(x) => given(x.number()),
+            Err(e) => e.into(),
+        }
     }
 }

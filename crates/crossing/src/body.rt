@@ -1,15 +1,15 @@
 // A body that was read, and a triple of one.
-ghost use Rattle.std.specs.Prelude.{◌≡◌, ◌-◌, length, []};
+ghost use Rattle.std.specs.Prelude.{◌≡◌, ◌-◌, length};
 ghost use Rattle.laws.specs.Answer.{Answer.given};
-ghost use Rattle.body_message.specs.Message.{Message.nak, Message.pdid, Message.lstatr, Message.keypad};
-ghost use Rattle.body_read.specs.declared.body.Body.{Body};
+ghost use Rattle.body_message.specs.Message.{Message.pdid};
 ghost use Rattle.body_read.specs.Reading.{message_in, read_answer};
 ghost use Rattle.body_read.specs.Lookup.{triple_answer};
 ghost use Rattle.crossing.specs.Answers.{c_given};
 ghost use Rattle.crossing.specs.Bodies.{c_bare, c_body, c_triple, c_triple_at};
 
-use super::answer::{CAnswer, given, refused};
-use body_read::{BadgeAnswer, Body, ReadAnswer, TripleAnswer, badge_number, triple_at};
+use super::answer::{CAnswer, given};
+use body_read::{Body, DeviceId, Triple, badge_number, triple_at};
+use refusal::Refusal;
 
 // What the kind does not have is 0; all 0 beside a refusal. What follows the numbers stays in the payload, at the place of rest.
 #[repr(C)]
@@ -75,96 +75,26 @@ fn bare(answer: CAnswer, code: u8, start: usize, len: usize) -> CBody
     }
 }
 
-// How many bytes of n come after the first ones.
-fn after(n: usize, first: usize) -> usize
-    ensures { result ≡ n - first }
-{
-    if n < first {
-        return 0;
-    }
-    n - first
-}
-
 // A body whose numbers end at start, in a payload of n bytes.
 fn begun(code: u8, start: usize, n: usize) -> CBody
     ensures { result ≡ c_bare (c_given 0) code start (n - start) }
 {
-    bare(given(0), code, start, after(n, start))
+    bare(given(0), code, start, n.saturating_sub(start))
 }
 
-fn nak_c(error: u8, n: usize) -> CBody
-    ensures { result ≡ c_body n (given (nak error [])) }
+fn device_c(id: DeviceId, n: usize) -> CBody
+    ensures { result ≡ c_body n (given (pdid id.vendor1 id.vendor2 id.vendor3 id.model id.version id.serial id.major id.minor id.build)) }
 {
-    let mut c = begun(0x41, 1, n);
-    c.error = error;
-    c
-}
-
-fn pdid_c(
-    vendor1: u8,
-    vendor2: u8,
-    vendor3: u8,
-    model: u8,
-    version: u8,
-    serial: u32,
-    major: u8,
-    minor: u8,
-    build: u8,
-    n: usize,
-) -> CBody
-    ensures { result ≡ c_body n (given (pdid vendor1 vendor2 vendor3 model version serial major minor build)) }
-{
-    let mut c = begun(0x45, 12, n);
-    c.vendor = [vendor1, vendor2, vendor3];
-    c.model = model;
-    c.version = version;
-    c.serial = serial;
-    c.firmware_major = major;
-    c.firmware_minor = minor;
-    c.firmware_build = build;
-    c
-}
-
-fn lstatr_c(tamper: u8, power: u8, n: usize) -> CBody
-    ensures { result ≡ c_body n (given (lstatr tamper power)) }
-{
-    let mut c = begun(0x48, 2, n);
-    c.tamper = tamper;
-    c.power = power;
-    c
-}
-
-fn raw_c(reader: u8, format: u8, bits: u16, payload: &[u8]) -> CBody
-    ensures { result ≡ c_body (length payload.now) (given (message_in (Body.Raw reader format bits) payload.now)) }
-{
-    let mut c = begun(0x50, 4, payload.len());
-    c.reader = reader;
-    c.format = format;
-    c.bits = bits;
-    match badge_number(
-        Body::Raw {
-            reader,
-            format,
-            bits,
-        },
-        payload,
-    ) {
-        Some(n) => {
-            c.has_number = true;
-            c.number = n;
-            c
-        }
-        None => c,
+    CBody {
+        vendor: [id.vendor1, id.vendor2, id.vendor3],
+        model: id.model,
+        version: id.version,
+        serial: id.serial,
+        firmware_major: id.major,
+        firmware_minor: id.minor,
+        firmware_build: id.build,
+        ..begun(0x45, 12, n)
     }
-}
-
-fn keypad_c(reader: u8, count: u8, n: usize) -> CBody
-    ensures { result ≡ c_body n (given (keypad reader count [])) }
-{
-    let mut c = begun(0x53, 2, n);
-    c.reader = reader;
-    c.count = count;
-    c
 }
 
 fn good_c(body: Body, payload: &[u8]) -> CBody
@@ -173,66 +103,77 @@ fn good_c(body: Body, payload: &[u8]) -> CBody
     let n = payload.len();
     match body {
         Body::Ack => begun(0x40, 0, n),
-        Body::Nak { error } => nak_c(error, n),
-        Body::PdId {
-            vendor1,
-            vendor2,
-            vendor3,
-            model,
-            version,
-            serial,
-            major,
-            minor,
-            build,
-        } => pdid_c(
-            vendor1, vendor2, vendor3, model, version, serial, major, minor, build, n,
-        ),
+        Body::Nak { error } => CBody {
+            error,
+            ..begun(0x41, 1, n)
+        },
+        Body::PdId(id) => device_c(id, n),
         Body::PdCap => begun(0x46, 0, n),
-        Body::LStatR { tamper, power } => lstatr_c(tamper, power, n),
+        Body::LStatR { tamper, power } => CBody {
+            tamper,
+            power,
+            ..begun(0x48, 2, n)
+        },
         Body::Raw {
             reader,
             format,
             bits,
-        } => raw_c(reader, format, bits, payload),
-        Body::Keypad { reader, count } => keypad_c(reader, count, n),
+        } => {
+            let number = badge_number(body, payload);
+            CBody {
+                reader,
+                format,
+                bits,
+                has_number: number.is_some(),
+                number: number.unwrap_or(0),
+                ..begun(0x50, 4, n)
+            }
+        }
+        Body::Keypad { reader, count } => CBody {
+            reader,
+            count,
+            ..begun(0x53, 2, n)
+        },
     }
 }
 
 // The payload is the one that was read.
-pub fn body_c(a: ReadAnswer, payload: &[u8]) -> CBody
-    ensures { result ≡ c_body (length payload.now) (read_answer a payload.now) }
+pub fn body_c(r: Result<Body, Refusal>, payload: &[u8]) -> CBody
+    ensures { result ≡ c_body (length payload.now) (read_answer r payload.now) }
 {
-    match a {
+    match r {
         Ok(body) => good_c(body, payload),
-        Err(e) => bare(refused(e), 0, 0, 0),
+        Err(e) => bare(e.into(), 0, 0, 0),
     }
 }
 
-fn told_triple(t: TripleAnswer) -> CTriple
-    ensures { result ≡ c_triple (triple_answer t) }
-{
-    match t {
-        Some(x) => CTriple {
-            there: true,
-            function: x.function,
-            compliance: x.compliance,
-            number: x.number,
-        },
-        None => CTriple {
-            there: false,
-            function: 0,
-            compliance: 0,
-            number: 0,
-        },
+impl From<Option<Triple>> for CTriple {
+    ghost from_gives = { λ t c. c ≡ c_triple (triple_answer t) };
+
+    fn from(t: Option<Triple>) -> CTriple {
+        match t {
+            Some(x) => CTriple {
+                there: true,
+                function: x.function,
+                compliance: x.compliance,
+                number: x.number,
+            },
+            None => CTriple {
+                there: false,
+                function: 0,
+                compliance: 0,
+                number: 0,
+            },
+        }
     }
 }
 
 // Triple i, counted from 0, of what was read in the payload.
-pub fn triple_c(a: ReadAnswer, payload: &[u8], i: usize) -> CTriple
-    ensures { result ≡ c_triple_at i (read_answer a payload.now) }
+pub fn triple_c(r: Result<Body, Refusal>, payload: &[u8], i: usize) -> CTriple
+    ensures { result ≡ c_triple_at i (read_answer r payload.now) }
 {
-    match a {
-        Ok(body) => told_triple(triple_at(body, payload, i)),
-        Err(_) => told_triple(None),
+    match r {
+        Ok(body) => triple_at(body, payload, i).into(),
+        Err(_) => None.into(),
     }
 }

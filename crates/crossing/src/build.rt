@@ -1,10 +1,10 @@
 // What C asks to have built, and the MAC that it gives.
 ghost use Rattle.std.specs.Prelude.{◌≡◌};
 ghost use Rattle.packet_build.specs.Build.{mac_bytes};
-ghost use Rattle.crossing.specs.Building.{mac_arg, KindMeets, AskedMeets};
+ghost use Rattle.crossing.specs.Building.{mac_arg, given_arg, KindMeets, AskedMeets};
 
-use packet_build::{BuildBlock, GivenMac, PacketBuilder};
-use packet_head::{Address, ControlByte, ScsAnswer, ScsType, Sqn, SqnAnswer};
+use packet_build::{GivenMac, PacketBuilder};
+use packet_head::{Address, ControlByte, ScsType, Sqn};
 use refusal::Refusal;
 
 // block is the control byte's flag; block_type is 0 where there is no block.
@@ -29,53 +29,41 @@ pub struct CMac {
     pub b3: u8,
 }
 
-#[derive(Clone, Copy)]
-pub(crate) enum Kind {
-    Good(BuildBlock),
-    Refused(Refusal),
-}
-
-#[derive(Clone, Copy)]
-pub enum AskedPacket {
-    Good(PacketBuilder),
-    Refused(Refusal),
-}
-
-fn kind_of(ty: u8) -> Kind
+#[tactic(auto, unfolding(crate::specs::Building::block_arg, laws::specs::Answer::choose, laws::specs::Answer::and_then))]
+fn kind_of(ty: u8) -> Result<Option<ScsType>, Refusal>
     ensures { KindMeets result ty }
 {
     if ty == 0 {
         return Ok(None);
     }
-    match ScsType::from_byte(ty) {
-        Ok(t) => Ok(Some(t)),
-        Err(e) => Err(e),
+    Ok(Some(ScsType::from_byte(ty)?))
+}
+
+impl TryFrom<CPacket> for PacketBuilder {
+    type Error = Refusal;
+
+    ghost try_from_gives = { λ p r. AskedMeets r p };
+
+    #[tactic(auto, unfolding(crate::specs::Building::parts_arg, laws::specs::Answer::and_then))]
+    fn try_from(p: CPacket) -> Result<PacketBuilder, Refusal> {
+        let sqn = Sqn::new(p.sqn)?;
+        let block = kind_of(p.block_type)?;
+        Ok(PacketBuilder {
+            addr: Address::from_raw(p.addr),
+            ctrl: ControlByte::new(sqn, p.crc, p.block),
+            block,
+            code: p.code,
+        })
     }
 }
 
-pub fn ask(p: CPacket) -> AskedPacket
-    ensures { AskedMeets result p }
-{
-    match Sqn::new(p.sqn) {
-        Ok(sqn) => match kind_of(p.block_type) {
-            Ok(block) => Ok(PacketBuilder {
-                addr: Address::from_raw(p.addr),
-                ctrl: ControlByte::new(sqn, p.crc, p.block),
-                block,
-                code: p.code,
-            }),
-            Err(e) => Err(e),
-        },
-        Err(e) => Err(e),
-    }
-}
+impl From<CMac> for GivenMac {
+    ghost from_gives = { λ m r. (r ≡ given_arg m) × (mac_bytes r ≡ mac_arg m) };
 
-pub fn mac_of(m: CMac) -> GivenMac
-    ensures { mac_bytes result ≡ mac_arg m }
-{
-    if m.given {
-        GivenMac::Is(m.b0, m.b1, m.b2, m.b3)
-    } else {
-        None
+    fn from(m: CMac) -> GivenMac {
+        if !m.given {
+            return None;
+        }
+        Some([m.b0, m.b1, m.b2, m.b3])
     }
 }

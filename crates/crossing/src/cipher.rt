@@ -2,7 +2,7 @@
 ghost use Rattle.std.specs.Prelude.{◌≡◌};
 ghost use Rattle.crossing.specs.Ciphers.{c_ciphered};
 
-use super::answer::{CAnswer, length_c};
+use super::answer::CAnswer;
 use secure_cipher::Ciphered;
 
 // How many bytes, and how often the cipher was called.
@@ -20,12 +20,13 @@ pub struct CChain {
     pub calls: usize,
 }
 
-pub fn ciphered_c(c: Ciphered) -> CCiphered
-    ensures { result ≡ c_ciphered c }
-{
-    let a = c.answer;
-    CCiphered {
-        answer: length_c(a),
-        calls: c.calls,
+impl From<Ciphered<usize>> for CCiphered {
+    ghost from_gives = { λ r c. c ≡ c_ciphered r };
+
+    fn from(r: Ciphered<usize>) -> CCiphered {
+        CCiphered {
+            answer: r.answer.into(),
+            calls: r.calls,
+        }
     }
 }

@@ -1,11 +1,12 @@
 // Addresses, sequence numbers, the control byte and the block's type.
 ghost use Rattle.std.specs.Prelude.{◌≡◌};
-ghost use Rattle.packet_head.specs.Header.{address_answer, sqn_answer, control_answer, encoded_answer};
-ghost use Rattle.packet_head.specs.Block.{scs_answer};
-ghost use Rattle.crossing.specs.Answers.{c_answer, c_control};
+ghost use Rattle.packet_head.specs.Header.{control_answer};
+ghost use Rattle.packet_head.specs.Block.{type_of};
+ghost use Rattle.crossing.specs.Answers.{c_control};
 
-use super::answer::{CAnswer, given, refused};
-use packet_head::{AddressAnswer, ControlAnswer, EncodedAnswer, ScsAnswer, SqnAnswer};
+use super::answer::{CAnswer, Told, given};
+use packet_head::{Address, ControlByte, ScsType, Sqn};
+use refusal::Refusal;
 
 // A control byte, taken apart.
 #[repr(C)]
@@ -17,57 +18,56 @@ pub struct CControl {
     pub block: bool,
 }
 
-pub fn address_c(a: AddressAnswer) -> CAnswer
-    ensures { result ≡ c_answer (address_answer a) }
-{
-    match a {
-        Ok(x) => given(x.as_byte() as usize),
-        Err(e) => refused(e),
+impl Told for Address {
+    ghost number = { λ addr. addr.0 };
+
+    fn number(self) -> usize {
+        self.as_byte().into()
     }
 }
 
-pub fn sqn_c(a: SqnAnswer) -> CAnswer
-    ensures { result ≡ c_answer (sqn_answer a) }
-{
-    match a {
-        Ok(x) => given(x.value() as usize),
-        Err(e) => refused(e),
+impl Told for Sqn {
+    ghost number = { λ sqn. sqn.0 };
+
+    fn number(self) -> usize {
+        self.value().into()
     }
 }
 
-pub fn encoded_c(a: EncodedAnswer) -> CAnswer
-    ensures { result ≡ c_answer (encoded_answer a) }
-{
-    match a {
-        Ok(b) => given(b as usize),
-        Err(e) => refused(e),
+// A control byte, put together.
+impl Told for u8 {
+    ghost number = { λ byte. byte };
+
+    fn number(self) -> usize {
+        self.into()
     }
 }
 
-pub fn scs_c(a: ScsAnswer) -> CAnswer
-    ensures { result ≡ c_answer (scs_answer a) }
-{
-    match a {
-        Ok(t) => given(t.as_byte() as usize),
-        Err(e) => refused(e),
+impl Told for ScsType {
+    ghost number = { type_of };
+
+    fn number(self) -> usize {
+        self.as_byte().into()
     }
 }
 
-pub fn control_c(a: ControlAnswer) -> CControl
-    ensures { result ≡ c_control (control_answer a) }
-{
-    match a {
-        Ok(c) => CControl {
-            answer: given(0),
-            sqn: c.sqn.value(),
-            crc: c.crc,
-            block: c.block,
-        },
-        Err(e) => CControl {
-            answer: refused(e),
-            sqn: 0,
-            crc: false,
-            block: false,
-        },
+impl From<Result<ControlByte, Refusal>> for CControl {
+    ghost from_gives = { λ r c. c ≡ c_control (control_answer r) };
+
+    fn from(r: Result<ControlByte, Refusal>) -> CControl {
+        match r {
+            Ok(c) => CControl {
+                answer: given(0),
+                sqn: c.sqn.value(),
+                crc: c.crc,
+                block: c.block,
+            },
+            Err(e) => CControl {
+                answer: e.into(),
+                sqn: 0,
+                crc: false,
+                block: false,
+            },
+        }
     }
 }

@@ -1,6 +1,7 @@
 // Blocks and session keys. An array crosses inside a struct.
 ghost use Rattle.std.specs.Prelude.{◌≡◌};
 ghost use Rattle.crossing.specs.Ciphers.{c_keys};
+ghost use Rattle.crossing.specs.Sessions.{keys_arg};
 
 use secure_keys::SessionKeys;
 
@@ -30,15 +31,36 @@ pub struct CKeys {
     pub s_mac2: [u8; 16],
 }
 
-pub fn keys_c(keys: SessionKeys) -> CKeys
-    ensures { result ≡ c_keys keys }
-{
-    let s_enc = keys.s_enc;
-    let s_mac1 = keys.s_mac1;
-    let s_mac2 = keys.s_mac2;
-    CKeys {
-        s_enc,
-        s_mac1,
-        s_mac2,
+impl From<SessionKeys> for CKeys {
+    ghost from_gives = { λ keys c. c ≡ c_keys keys };
+
+    fn from(keys: SessionKeys) -> CKeys {
+        let SessionKeys {
+            s_enc,
+            s_mac1,
+            s_mac2,
+        } = keys;
+        CKeys {
+            s_enc,
+            s_mac1,
+            s_mac2,
+        }
+    }
+}
+
+impl From<CKeys> for SessionKeys {
+    ghost from_gives = { λ c keys. keys ≡ keys_arg c };
+
+    fn from(c: CKeys) -> SessionKeys {
+        let CKeys {
+            s_enc,
+            s_mac1,
+            s_mac2,
+        } = c;
+        SessionKeys {
+            s_enc,
+            s_mac1,
+            s_mac2,
+        }
     }
 }

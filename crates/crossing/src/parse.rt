@@ -5,9 +5,10 @@ ghost use Rattle.packet_head.specs.Trailer.{tail};
 ghost use Rattle.packet_parse.specs.Frame.{type_in, block_start_in, block_len_in, head_answer, parsed, block_place};
 ghost use Rattle.crossing.specs.Parsing.{c_block, c_head, c_parsed, c_nothing, tail_value};
 
-use super::answer::{CAnswer, given, refused};
-use packet_head::{ScbAnswer, Trailer};
-use packet_parse::{BlockPart, HeadAnswer, Parsed, mac_start};
+use super::answer::{CAnswer, given};
+use packet_head::{Scb, Trailer};
+use packet_parse::{BlockPart, FrameHead, ParsedPacket, mac_start};
+use refusal::Refusal;
 
 #[repr(C)]
 #[derive(Clone, Copy)]
@@ -49,85 +50,57 @@ pub struct CParsed {
     pub len: usize,
 }
 
-pub fn block_c(a: ScbAnswer) -> CBlock
-    ensures { result ≡ c_block (scb_answer a) }
-{
-    match a {
-        Ok(b) => {
-            let ty = b.ty;
-            CBlock {
+impl From<Result<Scb, Refusal>> for CBlock {
+    ghost from_gives = { λ r c. c ≡ c_block (scb_answer r) };
+
+    fn from(r: Result<Scb, Refusal>) -> CBlock {
+        match r {
+            Ok(b) => CBlock {
                 answer: given(0),
-                ty: ty.as_byte(),
+                ty: b.ty.as_byte(),
                 data_len: b.data_len,
-            }
+            },
+            Err(e) => CBlock {
+                answer: e.into(),
+                ty: 0,
+                data_len: 0,
+            },
         }
-        Err(e) => CBlock {
-            answer: refused(e),
-            ty: 0,
-            data_len: 0,
-        },
     }
 }
 
-pub fn head_c(a: HeadAnswer) -> CHead
-    ensures { result ≡ c_head (head_answer a) }
-{
-    match a {
-        Ok(h) => CHead {
-            answer: given(0),
-            addr: h.addr.as_byte(),
-            len: h.len,
-            sqn: h.ctrl.sqn.value(),
-            crc: h.ctrl.crc,
-            block: h.ctrl.block,
-        },
-        Err(e) => CHead {
-            answer: refused(e),
-            addr: 0,
-            len: 0,
-            sqn: 0,
-            crc: false,
-            block: false,
-        },
+impl From<Result<FrameHead, Refusal>> for CHead {
+    ghost from_gives = { λ r c. c ≡ c_head (head_answer r) };
+
+    fn from(r: Result<FrameHead, Refusal>) -> CHead {
+        match r {
+            Ok(h) => CHead {
+                answer: given(0),
+                addr: h.addr.as_byte(),
+                len: h.len,
+                sqn: h.ctrl.sqn.value(),
+                crc: h.ctrl.crc,
+                block: h.ctrl.block,
+            },
+            Err(e) => CHead {
+                answer: e.into(),
+                addr: 0,
+                len: 0,
+                sqn: 0,
+                crc: false,
+                block: false,
+            },
+        }
     }
 }
 
-fn block_type(b: BlockPart) -> u8
-    ensures { result ≡ type_in (block_place b) }
+// A block's type, and where its data starts and how long it is; all 0 where there is none.
+fn block_told(b: Option<BlockPart>) -> (u8, usize, usize)
+    ensures { result ≡ (type_in (block_place b), block_start_in (block_place b), block_len_in (block_place b)) }
 {
     match b {
-        None => 0,
-        BlockPart::At {
-            ty,
-            start: _,
-            len: _,
-        } => ty.as_byte(),
-    }
-}
-
-fn block_start(b: BlockPart) -> usize
-    ensures { result ≡ block_start_in (block_place b) }
-{
-    match b {
-        None => 0,
-        BlockPart::At {
-            ty: _,
-            start,
-            len: _,
-        } => start,
-    }
-}
-
-fn block_len(b: BlockPart) -> usize
-    ensures { result ≡ block_len_in (block_place b) }
-{
-    match b {
-        None => 0,
-        BlockPart::At {
-            ty: _,
-            start: _,
-            len,
-        } => len,
+        Some(b) => (b.ty.as_byte(), b.start, b.len),
+        None => (0, 0, 0),
     }
 }
 
@@ -135,7 +108,7 @@ fn trailer_value(t: Trailer) -> u16
     ensures { result ≡ tail_value (tail t) }
 {
     match t {
-        Trailer::Checksum(n) => n as u16,
+        Trailer::Checksum(n) => n.into(),
         Trailer::Crc(n) => n,
     }
 }
@@ -162,32 +135,31 @@ fn nothing_parsed(answer: CAnswer) -> CParsed
     }
 }
 
-pub fn parsed_c(a: Parsed) -> CParsed
-    ensures { result ≡ c_parsed (parsed a) }
-{
-    match a {
-        Ok(p) => {
-            let block = p.block;
-            let mac = p.mac;
-            let trailer = p.trailer;
-            CParsed {
-                answer: given(0),
-                addr: p.addr.as_byte(),
-                sqn: p.ctrl.sqn.value(),
-                crc: p.ctrl.crc,
-                block: p.ctrl.block,
-                block_type: block_type(block),
-                block_start: block_start(block),
-                block_len: block_len(block),
-                code: p.code,
-                data_start: p.data_start,
-                data_len: p.data_len,
-                mac_start: mac_start(mac),
-                trailer_is_crc: trailer.is_crc(),
-                trailer: trailer_value(trailer),
-                len: p.len,
-            }
+impl From<Result<ParsedPacket, Refusal>> for CParsed {
+    ghost from_gives = { λ r c. c ≡ c_parsed (parsed r) };
+
+    fn from(r: Result<ParsedPacket, Refusal>) -> CParsed {
+        let p = match r {
+            Ok(p) => p,
+            Err(e) => return nothing_parsed(e.into()),
+        };
+        let (block_type, block_start, block_len) = block_told(p.block);
+        CParsed {
+            answer: given(0),
+            addr: p.addr.as_byte(),
+            sqn: p.ctrl.sqn.value(),
+            crc: p.ctrl.crc,
+            block: p.ctrl.block,
+            block_type,
+            block_start,
+            block_len,
+            code: p.code,
+            data_start: p.data_start,
+            data_len: p.data_len,
+            mac_start: mac_start(p.mac),
+            trailer_is_crc: p.trailer.is_crc(),
+            trailer: trailer_value(p.trailer),
+            len: p.len,
         }
-        Err(e) => nothing_parsed(refused(e)),
     }
 }

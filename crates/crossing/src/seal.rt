@@ -6,13 +6,13 @@ ghost use Rattle.secure_unseal.specs.Unseal.{place_answer};
 ghost use Rattle.crossing.specs.Sessions.{c_session};
 ghost use Rattle.crossing.specs.Sealing.{direction_arg, asked_arg, c_unsealed, told_sealed};
 
-use super::answer::{CAnswer, given, length_c, refused};
+use super::answer::{CAnswer, given};
 use super::session::{CSession, session_c};
-use packet_head::{Address, Sqn, SqnAnswer};
-use refusal::{LengthAnswer, Refusal};
-use secure_seal::{Direction, Sealed};
+use packet_head::{Address, Sqn};
+use refusal::Refusal;
+use secure_seal::{Direction, Sealed, ToSeal};
 use secure_session::Session;
-use secure_unseal::{PlaceAnswer, Unsealed};
+use secure_unseal::Unsealed;
 
 #[repr(C)]
 #[derive(Clone, Copy)]
@@ -72,60 +72,50 @@ pub fn seal_asked(x: Session, p: CToSeal, data: &[u8], out: &mut [u8]) -> Sealed
     if !x.is_secure() {
         return seal_refused(x, Refusal::WrongState);
     }
-    match Sqn::new(p.sqn) {
-        Ok(sqn) => {
-            let addr = Address::from_raw(p.addr);
-            let direction = direction_of(p.from_reader);
-            secure_seal::seal(x, addr, sqn, direction, p.encrypt, p.code, data, out)
-        }
-        Err(e) => seal_refused(x, e),
-    }
+    let sqn = match Sqn::new(p.sqn) {
+        Ok(sqn) => sqn,
+        Err(e) => return seal_refused(x, e),
+    };
+    let asked = ToSeal {
+        addr: Address::from_raw(p.addr),
+        sqn,
+        direction: direction_of(p.from_reader),
+        encrypt: p.encrypt,
+        code: p.code,
+    };
+    secure_seal::seal(x, asked, data, out)
 }
 
-pub fn sealed_c(r: Sealed) -> CSealed
-    ensures { result ≡ told_sealed r }
+pub fn sealed_c(sealed: Sealed) -> CSealed
+    ensures { result ≡ told_sealed sealed }
 {
-    let answer = r.answer;
-    let next = r.session;
-    let session = session_c(next);
     CSealed {
-        answer: length_c(answer),
-        calls: r.calls,
-        session,
+        answer: sealed.answer.into(),
+        calls: sealed.calls,
+        session: session_c(sealed.session),
     }
 }
 
-fn place_c(a: PlaceAnswer, calls: usize, session: CSession) -> CUnsealed
-    ensures { result ≡ c_unsealed (place_answer a) calls session }
+pub fn unsealed_c(unsealed: Unsealed) -> CUnsealed
+    ensures { result ≡ c_unsealed (place_answer unsealed.answer) unsealed.calls (c_session unsealed.session) }
 {
-    match a {
-        PlaceAnswer::Payload {
-            in_work,
-            start,
-            len,
-        } => CUnsealed {
+    let session = session_c(unsealed.session);
+    match unsealed.answer {
+        Ok(place) => CUnsealed {
             answer: given(0),
-            in_work,
-            start,
-            len,
-            calls,
+            in_work: place.in_work,
+            start: place.start,
+            len: place.len,
+            calls: unsealed.calls,
             session,
         },
         Err(e) => CUnsealed {
-            answer: refused(e),
+            answer: e.into(),
             in_work: false,
             start: 0,
             len: 0,
-            calls,
+            calls: unsealed.calls,
             session,
         },
     }
-}
-
-pub fn unsealed_c(u: Unsealed) -> CUnsealed
-    ensures { result ≡ c_unsealed (place_answer u.answer) u.calls (c_session u.session) }
-{
-    let answer = u.answer;
-    let next = u.session;
-    place_c(answer, u.calls, session_c(next))
 }

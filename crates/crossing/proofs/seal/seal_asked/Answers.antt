@@ -12,16 +12,16 @@ returns-then-not-is_secure c =
     let a = c.args in
     told-not-secure a.x (asked_arg a.p a.«data».now) a.out.now _ c.is_secure.ensures (ap not c.if-not-is_secure.true) c.seal_refused.ensures
 
-pub returns-in-Good : goal.returns-in-Good
-returns-in-Good c =
+pub returns-in-Err : goal.returns-in-Err
+returns-in-Err c =
+    let a = c.args in
+    let q = asked_arg a.p a.«data».now in
+    let n = sqn-refused a.p.sqn _ (total_of q) (length a.out.now) _ c.in-Err.ensures in
+    told-refused a.x q a.out.now _ c.is_secure.ensures (ap not c.if-not-is_secure.false) n c.in-Err.e refl c.seal_refused-in-Err.ensures
+
+pub returns : goal.returns
+returns c =
     let a = c.args in
     c.seal.ensures
     ∙ ap (λ (q : Asked). seal_of a.x q a.out.now)
-    (asked_same a.p a.«data».now _ _ _ c.from_raw-addr.ensures c.in-Good.ensures c.direction_of-direction.ensures)
-
-pub returns-in-Refused : goal.returns-in-Refused
-returns-in-Refused c =
-    let a = c.args in
-    let q = asked_arg a.p a.«data».now in
-    let n = sqn-refused a.p.sqn _ (total_of q) (length a.out.now) _ c.in-Refused.ensures in
-    told-refused a.x q a.out.now _ c.is_secure.ensures (ap not c.if-not-is_secure.false) n c.in-Refused.e refl c.seal_refused-in-Refused.ensures
+    (asked_same a.p a.«data».now _ c.from_raw.ensures c.in-Ok.ensures c.direction_of.ensures refl refl)
