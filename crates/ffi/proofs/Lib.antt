@@ -1,3 +1,2 @@
 pub mod Args
 pub mod Taking
-pub mod Sealings

@@ -8,64 +8,58 @@ ghost use Rattle.secure_cipher.specs.Mac.{mac_of};
 ghost use Rattle.crossing.specs.Answers.{c_answer};
 ghost use Rattle.crossing.specs.Ciphers.{c_done, c_chain};
 
-use crossing::{Bytes16, CAnswer, CChain, CCiphered, ciphered_c, length_c};
+use crossing::{Bytes16, CAnswer, CChain, CCiphered};
+use secure_cipher::ChainMac;
 
 pub fn malstrink_pad_mac(data: &[u8], out: &mut [u8]) -> CAnswer
     ensures value { result ≡ c_answer (sized (fitting (pad_mac «data».now) (length out.old))) }
     ensures out_after { out.new ≡ written out.old (fitting (pad_mac «data».now) (length out.old)) }
 {
-    length_c(secure_cipher::pad_mac(data, out))
+    secure_cipher::pad_mac(data, out).into()
 }
 
 pub fn malstrink_pad_data(data: &[u8], out: &mut [u8]) -> CAnswer
     ensures value { result ≡ c_answer (sized (fitting (pad_data «data».now) (length out.old))) }
     ensures out_after { out.new ≡ written out.old (fitting (pad_data «data».now) (length out.old)) }
 {
-    length_c(secure_cipher::pad_data(data, out))
+    secure_cipher::pad_data(data, out).into()
 }
 
 pub fn malstrink_unpad_data(bytes: &[u8]) -> CAnswer
     ensures { result ≡ c_answer (unpad bytes.now) }
 {
-    length_c(secure_cipher::unpad_data(bytes))
+    secure_cipher::unpad_data(bytes).into()
 }
 
 pub fn malstrink_complement_icv(mac: Bytes16) -> Bytes16
     ensures { result.bytes ≡ compl mac.bytes }
 {
-    let m = mac.bytes;
-    let c = secure_cipher::complement_icv(m);
-    Bytes16 { bytes: c }
+    let bytes = secure_cipher::complement_icv(mac.bytes);
+    Bytes16 { bytes }
 }
 
 pub fn malstrink_cbc_mac(input: &[u8], icv: Bytes16, s_mac1: Bytes16, s_mac2: Bytes16) -> CChain
     ensures { result ≡ c_chain (mac_of s_mac1.bytes s_mac2.bytes icv.bytes input.now) }
 {
-    let v = icv.bytes;
-    let k1 = s_mac1.bytes;
-    let k2 = s_mac2.bytes;
-    let m = secure_cipher::cbc_mac(input, v, k1, k2);
-    let full = m.full;
-    CChain {
-        full,
-        calls: m.calls,
-    }
+    let ChainMac { full, calls } = secure_cipher::cbc_mac(
+        input,
+        icv.bytes,
+        s_mac1.bytes,
+        s_mac2.bytes,
+    );
+    CChain { full, calls }
 }
 
 pub fn malstrink_encrypt_data(s_enc: Bytes16, iv: Bytes16, data: &[u8], out: &mut [u8]) -> CCiphered
     ensures value { result ≡ c_done (encrypt_of s_enc.bytes iv.bytes «data».now out.old) }
     ensures out_after { out.new ≡ (encrypt_of s_enc.bytes iv.bytes «data».now out.old).out }
 {
-    let k = s_enc.bytes;
-    let v = iv.bytes;
-    ciphered_c(secure_cipher::encrypt_data(k, v, data, out))
+    secure_cipher::encrypt_data(s_enc.bytes, iv.bytes, data, out).into()
 }
 
 pub fn malstrink_decrypt_data(s_enc: Bytes16, iv: Bytes16, data: &[u8], out: &mut [u8]) -> CCiphered
     ensures value { result ≡ c_done (decrypt_of s_enc.bytes iv.bytes «data».now out.old) }
     ensures out_after { out.new ≡ (decrypt_of s_enc.bytes iv.bytes «data».now out.old).out }
 {
-    let k = s_enc.bytes;
-    let v = iv.bytes;
-    ciphered_c(secure_cipher::decrypt_data(k, v, data, out))
+    secure_cipher::decrypt_data(s_enc.bytes, iv.bytes, data, out).into()
 }

@@ -4,7 +4,7 @@ ghost use Rattle.packet_head.specs.Block.{scb_of};
 ghost use Rattle.packet_parse.specs.Frame.{head_of, parse_of};
 ghost use Rattle.crossing.specs.Parsing.{c_block, c_head, c_parsed};
 
-use crossing::{CBlock, CHead, CParsed, block_c, head_c, parsed_c};
+use crossing::{CBlock, CHead, CParsed};
 use packet_head::Scb;
 use packet_parse::{head, parse};
 
@@ -12,17 +12,17 @@ use packet_parse::{head, parse};
 pub fn malstrink_block(bytes: &[u8]) -> CBlock
     ensures { result ≡ c_block (scb_of bytes.now) }
 {
-    block_c(Scb::parse(bytes))
+    Scb::parse(bytes).into()
 }
 
 pub fn malstrink_head(bytes: &[u8]) -> CHead
     ensures { result ≡ c_head (head_of bytes.now) }
 {
-    head_c(head(bytes))
+    head(bytes).into()
 }
 
 pub fn malstrink_parse(bytes: &[u8]) -> CParsed
     ensures { result ≡ c_parsed (parse_of bytes.now) }
 {
-    parsed_c(parse(bytes))
+    parse(bytes).into()
 }

@@ -7,17 +7,17 @@ ghost use Rattle.crossing.specs.Sealing.{c_unsealed};
 ghost use Rattle.ffi.specs.Sealing.{seal_arg, unseal_arg};
 
 use crossing::{
-    CAnswer, CSealed, CSession, CToSeal, CUnsealed, outcome_c, refused, seal_asked, sealed_c, take,
-    unsealed_c,
+    CAnswer, CSealed, CSession, CToSeal, CUnsealed, seal_asked, sealed_c, take, unsealed_c,
 };
-use refusal::{Outcome, Refusal};
+use refusal::Refusal;
+use secure_unseal::PayloadPlace;
 
 // What comes of a session that cannot be read.
 fn no_payload(s: CSession, e: Refusal) -> CUnsealed
     ensures { result ≡ c_unsealed (refusal_of e) 0 s }
 {
     CUnsealed {
-        answer: refused(e),
+        answer: e.into(),
         in_work: false,
         start: 0,
         len: 0,
@@ -27,17 +27,15 @@ fn no_payload(s: CSession, e: Refusal) -> CUnsealed
 }
 
 // The frame into out; the answer is how many bytes it has.
+#[tactic(auto, unfolding(crate::specs::Sealing::seal_arg, crate::specs::Sessions::reading))]
 pub fn malstrink_seal(s: CSession, p: CToSeal, data: &[u8], out: &mut [u8]) -> CSealed
     ensures value { result ≡ (seal_arg s p «data».now out.old).told }
     ensures out_after { out.new ≡ (seal_arg s p «data».now out.old).out }
 {
-    let t = take(s);
-    let outcome = t.outcome;
-    let x = t.session;
-    match outcome {
-        Ok(()) => sealed_c(seal_asked(x, p, data, out)),
+    match take(s) {
+        Ok(x) => sealed_c(seal_asked(x, p, data, out)),
         Err(e) => CSealed {
-            answer: refused(e),
+            answer: e.into(),
             calls: 0,
             session: s,
         },
@@ -45,15 +43,13 @@ pub fn malstrink_seal(s: CSession, p: CToSeal, data: &[u8], out: &mut [u8]) -> C
 }
 
 // An encrypted payload is laid into work.
+#[tactic(auto, unfolding(crate::specs::Sealing::unseal_arg, crate::specs::Sessions::reading))]
 pub fn malstrink_unseal(s: CSession, frame: &[u8], work: &mut [u8]) -> CUnsealed
     ensures value { result ≡ (unseal_arg s frame.now work.old).told }
     ensures work_after { work.new ≡ (unseal_arg s frame.now work.old).work }
 {
-    let t = take(s);
-    let outcome = t.outcome;
-    let x = t.session;
-    match outcome {
-        Ok(()) => unsealed_c(secure_unseal::unseal(x, frame, work)),
+    match take(s) {
+        Ok(x) => unsealed_c(secure_unseal::unseal(x, frame, work)),
         Err(e) => no_payload(s, e),
     }
 }
@@ -67,5 +63,10 @@ pub fn malstrink_payload_test(
 ) -> CAnswer
     ensures { result ≡ c_yes (shown_test in_work start len frame.now work.now) }
 {
-    outcome_c(secure_unseal::payload_test(frame, work, in_work, start, len))
+    let place = PayloadPlace {
+        in_work,
+        start,
+        len,
+    };
+    secure_unseal::payload_test(frame, work, place).into()
 }

@@ -1,18 +1,19 @@
 // The calls of the handshake at both ends, on a session that C hands in by value.
+#![tactic(auto, unfolding(crate::specs::Sessions::reading, crate::specs::Sessions::stepped_arg, crate::specs::Sessions::stepped_block_arg, crate::specs::Sessions::block_answer_arg, laws::specs::Answer::and_then))]
+
 ghost use Rattle.std.specs.Prelude.{◌≡◌};
 ghost use Rattle.laws.specs.Bytes.{zeros};
-ghost use Rattle.refusal.specs.Paper.{refusal_of};
 ghost use Rattle.secure_session.specs.declared.session.End.TheVariants.{Controller, Reader};
 ghost use Rattle.secure_session.specs.Session.{fresh};
 ghost use Rattle.secure_session.specs.Handshake.{challenge_of, receive_ccrypt_of, server_cryptogram_of, initial_rmac_of, confirm_of, receive_challenge_of, receive_scrypt_of};
-ghost use Rattle.crossing.specs.Sessions.{c_session, c_block_answer};
+ghost use Rattle.crossing.specs.Sessions.{c_session};
 ghost use Rattle.ffi.specs.Sessions.{c_wiped, no_step, no_stepped_block, stepped_arg, stepped_block_arg, block_answer_arg};
 
 use crossing::{
-    Bytes8, Bytes16, CBlockAnswer, CKeys, CSession, CStepped, CSteppedBlock, block_answer_c,
-    refused, session_c, stepped_block_c, stepped_c, take,
+    Bytes8, Bytes16, CBlockAnswer, CKeys, CSession, CStepped, CSteppedBlock, session_c,
+    stepped_block_c, stepped_c, take,
 };
-use refusal::{Outcome, Refusal};
+use refusal::Refusal;
 use secure_session::Session;
 
 // What comes of a session that cannot be read.
@@ -20,7 +21,7 @@ pub(crate) fn no_step(s: CSession, e: Refusal) -> CStepped
     ensures { result ≡ no_step s e }
 {
     CStepped {
-        answer: refused(e),
+        answer: e.into(),
         session: s,
     }
 }
@@ -29,18 +30,9 @@ pub(crate) fn no_stepped_block(s: CSession, e: Refusal) -> CSteppedBlock
     ensures { result ≡ no_stepped_block s e }
 {
     CSteppedBlock {
-        answer: refused(e),
+        answer: e.into(),
         block: [0; 16],
         session: s,
-    }
-}
-
-pub(crate) fn no_block(e: Refusal) -> CBlockAnswer
-    ensures { result ≡ c_block_answer (refusal_of e) }
-{
-    CBlockAnswer {
-        answer: refused(e),
-        block: [0; 16],
     }
 }
 
@@ -49,16 +41,13 @@ pub(crate) fn no_block(e: Refusal) -> CBlockAnswer
 pub fn malstrink_session_new(scbk: Bytes16) -> CSession
     ensures { result ≡ c_session (fresh Controller scbk.bytes (zeros 8)) }
 {
-    let k = scbk.bytes;
-    session_c(Session::new(k))
+    session_c(Session::new(scbk.bytes))
 }
 
 pub fn malstrink_session_new_reader(scbk: Bytes16, cuid: Bytes8) -> CSession
     ensures { result ≡ c_session (fresh Reader scbk.bytes cuid.bytes) }
 {
-    let k = scbk.bytes;
-    let u = cuid.bytes;
-    session_c(Session::new_reader(k, u))
+    session_c(Session::new_reader(scbk.bytes, cuid.bytes))
 }
 
 // Good for a session that cannot be read as well: what it holds must not stay behind.
@@ -86,14 +75,8 @@ pub fn malstrink_session_wipe(s: CSession) -> CSession
 pub fn malstrink_session_challenge(s: CSession, rnd_a: Bytes8) -> CStepped
     ensures { result ≡ stepped_arg s (λ x. challenge_of x rnd_a.bytes) }
 {
-    let t = take(s);
-    let outcome = t.outcome;
-    let x = t.session;
-    match outcome {
-        Ok(()) => {
-            let a = rnd_a.bytes;
-            stepped_c(x.challenge(a))
-        }
+    match take(s) {
+        Ok(x) => stepped_c(x.challenge(rnd_a.bytes)),
         Err(e) => no_step(s, e),
     }
 }
@@ -106,16 +89,8 @@ pub fn malstrink_session_receive_ccrypt(
 ) -> CStepped
     ensures { result ≡ stepped_arg s (λ x. receive_ccrypt_of x cuid.bytes rnd_b.bytes client_cryptogram.bytes) }
 {
-    let t = take(s);
-    let outcome = t.outcome;
-    let x = t.session;
-    match outcome {
-        Ok(()) => {
-            let u = cuid.bytes;
-            let b = rnd_b.bytes;
-            let c = client_cryptogram.bytes;
-            stepped_c(x.receive_ccrypt(u, b, c))
-        }
+    match take(s) {
+        Ok(x) => stepped_c(x.receive_ccrypt(cuid.bytes, rnd_b.bytes, client_cryptogram.bytes)),
         Err(e) => no_step(s, e),
     }
 }
@@ -123,38 +98,20 @@ pub fn malstrink_session_receive_ccrypt(
 pub fn malstrink_session_server_cryptogram(s: CSession) -> CBlockAnswer
     ensures { result ≡ block_answer_arg s server_cryptogram_of }
 {
-    let t = take(s);
-    let outcome = t.outcome;
-    let x = t.session;
-    match outcome {
-        Ok(()) => block_answer_c(x.server_cryptogram()),
-        Err(e) => no_block(e),
-    }
+    take(s).and_then(|x| x.server_cryptogram()).into()
 }
 
 pub fn malstrink_session_initial_rmac(s: CSession) -> CBlockAnswer
     ensures { result ≡ block_answer_arg s initial_rmac_of }
 {
-    let t = take(s);
-    let outcome = t.outcome;
-    let x = t.session;
-    match outcome {
-        Ok(()) => block_answer_c(x.initial_rmac()),
-        Err(e) => no_block(e),
-    }
+    take(s).and_then(|x| x.initial_rmac()).into()
 }
 
 pub fn malstrink_session_confirm_rmac_i(s: CSession, rmac_i: Bytes16) -> CStepped
     ensures { result ≡ stepped_arg s (λ x. confirm_of x rmac_i.bytes) }
 {
-    let t = take(s);
-    let outcome = t.outcome;
-    let x = t.session;
-    match outcome {
-        Ok(()) => {
-            let m = rmac_i.bytes;
-            stepped_c(x.confirm_rmac_i(m))
-        }
+    match take(s) {
+        Ok(x) => stepped_c(x.confirm_rmac_i(rmac_i.bytes)),
         Err(e) => no_step(s, e),
     }
 }
@@ -168,15 +125,8 @@ pub fn malstrink_session_receive_challenge(
 ) -> CSteppedBlock
     ensures { result ≡ stepped_block_arg s (λ x. receive_challenge_of x rnd_a.bytes rnd_b.bytes) }
 {
-    let t = take(s);
-    let outcome = t.outcome;
-    let x = t.session;
-    match outcome {
-        Ok(()) => {
-            let a = rnd_a.bytes;
-            let b = rnd_b.bytes;
-            stepped_block_c(x.receive_challenge(a, b))
-        }
+    match take(s) {
+        Ok(x) => stepped_block_c(x.receive_challenge(rnd_a.bytes, rnd_b.bytes)),
         Err(e) => no_stepped_block(s, e),
     }
 }
@@ -184,14 +134,8 @@ pub fn malstrink_session_receive_challenge(
 pub fn malstrink_session_receive_scrypt(s: CSession, server_cryptogram: Bytes16) -> CSteppedBlock
     ensures { result ≡ stepped_block_arg s (λ x. receive_scrypt_of x server_cryptogram.bytes) }
 {
-    let t = take(s);
-    let outcome = t.outcome;
-    let x = t.session;
-    match outcome {
-        Ok(()) => {
-            let c = server_cryptogram.bytes;
-            stepped_block_c(x.receive_scrypt(c))
-        }
+    match take(s) {
+        Ok(x) => stepped_block_c(x.receive_scrypt(server_cryptogram.bytes)),
         Err(e) => no_stepped_block(s, e),
     }
 }

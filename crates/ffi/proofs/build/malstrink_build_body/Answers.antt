@@ -1,48 +1,23 @@
 -- `malstrink_build_body` meets its contract: the packet is made, then built up to its data (proofs/Args).
-use mathlib.Core.Path.{sym, ap, ◌∙◌}
+use mathlib.Core.Path.{ap, ◌∙◌}
 use Rattle.std.proofs.Common.{length}
 use Rattle.laws.specs.Buffer.{sized, written}
-use Rattle.refusal.specs.Paper.{number_of, values_of}
-use Rattle.packet_build.specs.declared.codec.GivenMac.{GivenMac}
-use Rattle.packet_build.specs.Build.{parts_given}
 use Rattle.crossing.specs.Answers.{c_answer}
-use Rattle.ffi.proofs.Args.{body_asked, body_not_asked}
+use Rattle.ffi.proofs.Args.{body-asked, body-refused}
 use Rattle.ffi.proofs.build.malstrink_build_body.Goals as goal
 
-pub returns-in-Good-clause-value : goal.returns-in-Good-clause-value
-returns-in-Good-clause-value c =
-    let a = c.args in
-    let l = a.block.now in
-    let d = a.«data».now in
-    let o = a.out.now in
-    let f = sym (body_asked a.p l d (length o) (parts_given c.in-Good.w l d None) (sym (c.in-Good.ensures l d None))) in
-    c.length_c.ensures ∙ ap c_answer (c.build_body.ensures.result_value ∙ ap sized f)
+pub returns-in-Ok-clause-value : goal.returns-in-Ok-clause-value
+returns-in-Ok-clause-value c = let a = c.args in
+    c.into.ensures ∙ ap c_answer (c.build_body.ensures.result_value ∙ ap sized (body-asked a.p a.block.now a.«data».now (length a.out.now) c.in-Ok.w c.in-Ok.ensures))
 
-pub returns-in-Good-clause-out_after : goal.returns-in-Good-clause-out_after
-returns-in-Good-clause-out_after c =
-    let a = c.args in
-    let l = a.block.now in
-    let d = a.«data».now in
-    let o = a.out.now in
-    let f = sym (body_asked a.p l d (length o) (parts_given c.in-Good.w l d None) (sym (c.in-Good.ensures l d None))) in
-    c.build_body.ensures.out_after ∙ ap (written o) f
+pub returns-in-Ok-clause-out_after : goal.returns-in-Ok-clause-out_after
+returns-in-Ok-clause-out_after c = let a = c.args in
+    c.build_body.ensures.out_after ∙ ap (written a.out.now) (body-asked a.p a.block.now a.«data».now (length a.out.now) c.in-Ok.w c.in-Ok.ensures)
 
-pub returns-in-Refused-clause-value : goal.returns-in-Refused-clause-value
-returns-in-Refused-clause-value c =
-    let a = c.args in
-    let l = a.block.now in
-    let d = a.«data».now in
-    let o = a.out.now in
-    let r = c.in-Refused.e in
-    let f = sym (body_not_asked a.p l d (length o) (number_of r) (values_of r) (sym (c.in-Refused.ensures l d None))) in
-    c.refused.ensures ∙ ap c_answer (ap sized f)
+pub returns-in-Err-clause-value : goal.returns-in-Err-clause-value
+returns-in-Err-clause-value c = let a = c.args in
+    c.into-in-Err.ensures ∙ ap c_answer (ap sized (body-refused a.p a.block.now a.«data».now (length a.out.now) c.in-Err.e c.in-Err.ensures))
 
-pub returns-in-Refused-clause-out_after : goal.returns-in-Refused-clause-out_after
-returns-in-Refused-clause-out_after c =
-    let a = c.args in
-    let l = a.block.now in
-    let d = a.«data».now in
-    let o = a.out.now in
-    let r = c.in-Refused.e in
-    let f = sym (body_not_asked a.p l d (length o) (number_of r) (values_of r) (sym (c.in-Refused.ensures l d None))) in
-    ap (written o) f
+pub returns-in-Err-clause-out_after : goal.returns-in-Err-clause-out_after
+returns-in-Err-clause-out_after c = let a = c.args in
+    ap (written a.out.now) (body-refused a.p a.block.now a.«data».now (length a.out.now) c.in-Err.e c.in-Err.ensures)
