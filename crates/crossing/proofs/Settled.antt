@@ -8,7 +8,7 @@ use native.Mathlib.Omega.{arith}
 use lib.ListN.{length}
 use Rattle.laws.specs.Answer.{Answer}
 use Rattle.refusal.specs.declared.Refusal.{Refusal}
-use Rattle.refusal.proofs.OneReading.{answer_settled}
+use Rattle.refusal.proofs.OneReading.{result_settled}
 use Rattle.packet_head.specs.Numbers.{MAC_LEN}
 use Rattle.packet_head.proofs.Settled.{control_from, type_from, type_back}
 use Rattle.packet_build.specs.Build.{FrameBlock, FrameBlock.no_scb, FrameBlock.scb, FrameParts, parts_given, scb_given, mac_bytes}
@@ -36,7 +36,7 @@ packet_back : (w : PacketBuilder) → packet_from (parts_given w [] [] None) ≡
 packet_back w = ap (λ (b : Option ScsType). record { addr = w.addr; ctrl = w.ctrl; block = b; code = w.code }) (block_back w.block)
 
 pub asked_settled : (p : CPacket) (r s : Result PacketBuilder Refusal) → AskedMeets r p → AskedMeets s p → r ≡ s
-asked_settled p r s e f = answer_settled (λ w. parts_given w [] [] None) packet_from packet_back r s (e [] [] None ∙ sym (f [] [] None))
+asked_settled p r s e f = result_settled (λ w. parts_given w [] [] None) packet_from packet_back r s (e [] [] None ∙ sym (f [] [] None))
 
 -- a MAC is four bytes
 abbrev pub IsMac : Option (List ℕ) → Type 0
@@ -52,4 +52,4 @@ given-mac_settled (Some l) (Some j) g h e = ap Some e
 -- ---- a session
 
 pub taken_settled : (x : Answer Session) (r s : Result Session Refusal) → taken r ≡ x → taken s ≡ x → r ≡ s
-taken_settled x r s e f = answer_settled (λ t. t) (λ t. t) (λ t. refl) r s (e ∙ sym f)
+taken_settled x r s e f = result_settled (λ t. t) (λ t. t) (λ t. refl) r s (e ∙ sym f)
