@@ -1,5 +1,5 @@
 // The calls on a session that is lent, and altered where the caller keeps it.
 pub use secure_lent::{
-    SealedLent, UnsealedLent, challenge, confirm_rmac_i, mac, receive_ccrypt, receive_challenge,
-    receive_scrypt, seal, unseal, verify, wipe,
+    challenge, confirm_rmac_i, mac, receive_ccrypt, receive_challenge, receive_scrypt, seal,
+    unseal, verify, wipe,
 };

@@ -12,6 +12,6 @@ pub use secure_keys::{
     SessionKeys, aes128_decrypt, aes128_encrypt, client_cryptogram, diversify_scbk_legacy,
     initial_rmac, same, server_cryptogram,
 };
-pub use secure_seal::{Direction, Sealed, seal};
-pub use secure_session::{BlockAnswer, End, KeysAnswer, Session, State, Stepped, SteppedBlock};
-pub use secure_unseal::{PlaceAnswer, Unsealed, payload, payload_test, unseal};
+pub use secure_seal::{Direction, Sealed, ToSeal, seal};
+pub use secure_session::{End, Processed, Session, State, Stepped};
+pub use secure_unseal::{PayloadPlace, Unsealed, payload, payload_test, unseal};

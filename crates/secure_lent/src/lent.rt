@@ -1,43 +1,48 @@
 // The calls of a session on one that is lent: each makes the call by value and stores the session that comes back.
 ghost use Rattle.std.specs.Prelude.{◌≡◌};
 ghost use Rattle.secure_session.specs.Session.{wiped_of};
-ghost use Rattle.secure_session.specs.Handshake.{challenge_of, receive_ccrypt_of, confirm_of, receive_challenge_of, receive_scrypt_of, stepped, stepped_block, block_beside};
+ghost use Rattle.secure_session.specs.Handshake.{challenge_of, receive_ccrypt_of, confirm_of, receive_challenge_of, receive_scrypt_of, stepped, stepped_block};
 ghost use Rattle.secure_session.specs.Channel.{make_mac, verify_of};
 ghost use Rattle.secure_seal.specs.Seal.{asked_of, seal_of, seal_told};
 ghost use Rattle.secure_unseal.specs.Unseal.{unseal_of, unseal_told};
 
-use packet_head::{Address, Sqn};
-use refusal::{LengthAnswer, Outcome};
-use secure_seal::Direction;
-use secure_session::{BlockAnswer, Session};
-use secure_unseal::PlaceAnswer;
+use refusal::Refusal;
+use secure_cipher::Ciphered;
+use secure_seal::ToSeal;
+use secure_session::{Processed, Session, Stepped};
+use secure_unseal::PayloadPlace;
 
-// How long the frame is; how often the cipher was called.
-#[derive(Clone, Copy)]
-pub struct SealedLent {
-    pub answer: LengthAnswer,
-    pub calls: usize,
+// Stores the session that a step leaves, and hands on the answer.
+fn stored<T>(session: &mut Session, r: Stepped<T>) -> Result<T, Refusal>
+    ensures answer { result ≡ r.answer }
+    ensures session_after { session.new ≡ r.session }
+{
+    *session = r.session;
+    r.answer
 }
 
-// Where the payload stands; how often the cipher was called.
-#[derive(Clone, Copy)]
-pub struct UnsealedLent {
-    pub answer: PlaceAnswer,
-    pub calls: usize,
+// The same with the count of calls.
+fn stored_counted<T>(session: &mut Session, r: Processed<T>) -> Ciphered<T>
+    ensures told { result ≡ record { answer = r.answer; calls = r.calls } }
+    ensures session_after { session.new ≡ r.session }
+{
+    *session = r.session;
+    Ciphered {
+        answer: r.answer,
+        calls: r.calls,
+    }
 }
 
 pub fn wipe(session: &mut Session)
     ensures { session.new ≡ wiped_of session.old }
 {
-    *session = (*session).wipe();
+    *session = session.wipe();
 }
 
-pub fn challenge(session: &mut Session, rnd_a: [u8; 8]) -> Outcome
-    ensures { stepped (record { outcome = result; session = session.new }) ≡ challenge_of session.old rnd_a }
+pub fn challenge(session: &mut Session, rnd_a: [u8; 8]) -> Result<(), Refusal>
+    ensures { stepped (record { answer = result; session = session.new }) ≡ challenge_of session.old rnd_a }
 {
-    let r = (*session).challenge(rnd_a);
-    *session = r.session;
-    r.outcome
+    stored(session, session.challenge(rnd_a))
 }
 
 pub fn receive_ccrypt(
@@ -45,96 +50,60 @@ pub fn receive_ccrypt(
     cuid: [u8; 8],
     rnd_b: [u8; 8],
     client_cryptogram: [u8; 16],
-) -> Outcome
-    ensures { stepped (record { outcome = result; session = session.new }) ≡ receive_ccrypt_of session.old cuid rnd_b client_cryptogram }
+) -> Result<(), Refusal>
+    ensures { stepped (record { answer = result; session = session.new }) ≡ receive_ccrypt_of session.old cuid rnd_b client_cryptogram }
 {
-    let r = (*session).receive_ccrypt(cuid, rnd_b, client_cryptogram);
-    *session = r.session;
-    r.outcome
+    stored(
+        session,
+        session.receive_ccrypt(cuid, rnd_b, client_cryptogram),
+    )
 }
 
-pub fn confirm_rmac_i(session: &mut Session, rmac_i: [u8; 16]) -> Outcome
-    ensures { stepped (record { outcome = result; session = session.new }) ≡ confirm_of session.old rmac_i }
+pub fn confirm_rmac_i(session: &mut Session, rmac_i: [u8; 16]) -> Result<(), Refusal>
+    ensures { stepped (record { answer = result; session = session.new }) ≡ confirm_of session.old rmac_i }
 {
-    let r = (*session).confirm_rmac_i(rmac_i);
-    *session = r.session;
-    r.outcome
+    stored(session, session.confirm_rmac_i(rmac_i))
 }
 
-pub fn receive_challenge(session: &mut Session, rnd_a: [u8; 8], rnd_b: [u8; 8]) -> BlockAnswer
-    ensures session_after { stepped_block (record { outcome = result.outcome; block = result.block; session = session.new }) ≡ receive_challenge_of session.old rnd_a rnd_b }
-    ensures block_value { result.block ≡ block_beside (receive_challenge_of session.old rnd_a rnd_b).answer }
-{
-    let r = (*session).receive_challenge(rnd_a, rnd_b);
-    let block = r.block;
-    *session = r.session;
-    BlockAnswer {
-        outcome: r.outcome,
-        block,
-    }
-}
-
-pub fn receive_scrypt(session: &mut Session, server_cryptogram: [u8; 16]) -> BlockAnswer
-    ensures session_after { stepped_block (record { outcome = result.outcome; block = result.block; session = session.new }) ≡ receive_scrypt_of session.old server_cryptogram }
-    ensures block_value { result.block ≡ block_beside (receive_scrypt_of session.old server_cryptogram).answer }
-{
-    let r = (*session).receive_scrypt(server_cryptogram);
-    let block = r.block;
-    *session = r.session;
-    BlockAnswer {
-        outcome: r.outcome,
-        block,
-    }
-}
-
-pub fn mac(session: &mut Session, bytes: &[u8]) -> BlockAnswer
-    ensures session_after { stepped_block (record { outcome = result.outcome; block = result.block; session = session.new }) ≡ make_mac session.old bytes.now }
-    ensures block_value { result.block ≡ block_beside (make_mac session.old bytes.now).answer }
-{
-    let r = (*session).mac(bytes);
-    let block = r.block;
-    *session = r.session;
-    BlockAnswer {
-        outcome: r.outcome,
-        block,
-    }
-}
-
-pub fn verify(session: &mut Session, bytes: &[u8], wire_mac: [u8; 4]) -> Outcome
-    ensures { stepped (record { outcome = result; session = session.new }) ≡ verify_of session.old bytes.now wire_mac }
-{
-    let r = (*session).verify(bytes, wire_mac);
-    *session = r.session;
-    r.outcome
-}
-
-pub fn seal(
+pub fn receive_challenge(
     session: &mut Session,
-    addr: Address,
-    sqn: Sqn,
-    direction: Direction,
-    encrypt: bool,
-    code: u8,
-    data: &[u8],
-    out: &mut [u8],
-) -> SealedLent
-    ensures { seal_told (record { answer = result.answer; calls = result.calls; session = session.new }) out.new ≡ seal_of session.old (asked_of addr sqn direction encrypt code «data».now) out.old }
+    rnd_a: [u8; 8],
+    rnd_b: [u8; 8],
+) -> Result<[u8; 16], Refusal>
+    ensures { stepped_block (record { answer = result; session = session.new }) ≡ receive_challenge_of session.old rnd_a rnd_b }
 {
-    let r = secure_seal::seal(*session, addr, sqn, direction, encrypt, code, data, out);
-    *session = r.session;
-    SealedLent {
-        answer: r.answer,
-        calls: r.calls,
-    }
+    stored(session, session.receive_challenge(rnd_a, rnd_b))
 }
 
-pub fn unseal(session: &mut Session, frame: &[u8], work: &mut [u8]) -> UnsealedLent
+pub fn receive_scrypt(
+    session: &mut Session,
+    server_cryptogram: [u8; 16],
+) -> Result<[u8; 16], Refusal>
+    ensures { stepped_block (record { answer = result; session = session.new }) ≡ receive_scrypt_of session.old server_cryptogram }
+{
+    stored(session, session.receive_scrypt(server_cryptogram))
+}
+
+pub fn mac(session: &mut Session, bytes: &[u8]) -> Result<[u8; 16], Refusal>
+    ensures { stepped_block (record { answer = result; session = session.new }) ≡ make_mac session.old bytes.now }
+{
+    stored(session, session.mac(bytes))
+}
+
+pub fn verify(session: &mut Session, bytes: &[u8], wire_mac: [u8; 4]) -> Result<(), Refusal>
+    ensures { stepped (record { answer = result; session = session.new }) ≡ verify_of session.old bytes.now wire_mac }
+{
+    stored(session, session.verify(bytes, wire_mac))
+}
+
+pub fn seal(session: &mut Session, w: ToSeal, data: &[u8], out: &mut [u8]) -> Ciphered<usize>
+    ensures { seal_told (record { answer = result.answer; calls = result.calls; session = session.new }) out.new ≡ seal_of session.old (asked_of w «data».now) out.old }
+{
+    stored_counted(session, secure_seal::seal(*session, w, data, out))
+}
+
+pub fn unseal(session: &mut Session, frame: &[u8], work: &mut [u8]) -> Ciphered<PayloadPlace>
     ensures { unseal_told (record { answer = result.answer; calls = result.calls; session = session.new }) work.new ≡ unseal_of session.old frame.now work.old }
 {
-    let r = secure_unseal::unseal(*session, frame, work);
-    *session = r.session;
-    UnsealedLent {
-        answer: r.answer,
-        calls: r.calls,
-    }
+    stored_counted(session, secure_unseal::unseal(*session, frame, work))
 }

@@ -4,6 +4,6 @@
 mod lent;
 
 pub use lent::{
-    SealedLent, UnsealedLent, challenge, confirm_rmac_i, mac, receive_ccrypt, receive_challenge,
-    receive_scrypt, seal, unseal, verify, wipe,
+    challenge, confirm_rmac_i, mac, receive_ccrypt, receive_challenge, receive_scrypt, seal,
+    unseal, verify, wipe,
 };

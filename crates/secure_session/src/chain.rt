@@ -48,7 +48,8 @@ impl Session {
         }
     }
 
-    // Where a MAC that is made starts.
+    // Where a MAC that is made starts. Made and checked, sent and received are told apart by name, though one value is kept for both: each
+    // has a definition of its own, and one function for two would say less.
     pub(crate) fn send_from(self) -> [u8; 16]
         ensures { result ≡ send_from self }
     {

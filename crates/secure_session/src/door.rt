@@ -8,7 +8,7 @@ use super::chain::Chain;
 use super::session::{End, Session, State};
 use secure_keys::SessionKeys;
 
-// What a session holds, open.
+// What a session holds, open. Its conversions have names, and are no From: who opens a session is found by them.
 #[derive(Clone, Copy)]
 pub struct SessionFields {
     pub end: End,

@@ -2,7 +2,7 @@
 ghost use Rattle.std.specs.Prelude.{◌≡◌};
 ghost use Rattle.laws.specs.Bytes.{zeros};
 ghost use Rattle.secure_keys.specs.Keys.{first_of};
-ghost use Rattle.secure_session.specs.Session.{end_number, state_number, is_at, no_keys, fresh, reset, wiped_of, with_step, secured};
+ghost use Rattle.secure_session.specs.Session.{end_number, state_number, is_at, no_keys, fresh, reset, wiped_of, secured};
 ghost use Rattle.secure_session.specs.declared.session.End.TheVariants.{Controller, Reader};
 ghost use Rattle.secure_session.specs.Handshake.{challenge_of, receive_ccrypt_of, server_cryptogram_of, initial_rmac_of, confirm_of, receive_challenge_of, receive_scrypt_of, server_for, stepped, stepped_block, block_answer};
 
@@ -12,16 +12,16 @@ use secure_keys::SessionKeys;
 
 #[derive(Clone, Copy, PartialEq, Eq)]
 pub enum End {
-    Controller,
-    Reader,
+    Controller = 0,
+    Reader = 1,
 }
 
 #[derive(Clone, Copy, PartialEq, Eq)]
 pub enum State {
-    Disconnected,
-    Challenged,
-    Cryptogrammed,
-    Secure,
+    Disconnected = 0,
+    Challenged = 1,
+    Cryptogrammed = 2,
+    Secure = 3,
 }
 
 // Its fields are closed: from outside a session is made and moved by its calls alone.
@@ -56,21 +56,13 @@ pub struct Processed<T> {
 pub fn end_number(e: End) -> u8
     ensures { result ≡ end_number e }
 {
-    match e {
-        End::Controller => 0,
-        End::Reader => 1,
-    }
+    e as u8
 }
 
 pub fn state_number(t: State) -> u8
     ensures { result ≡ state_number t }
 {
-    match t {
-        State::Disconnected => 0,
-        State::Challenged => 1,
-        State::Cryptogrammed => 2,
-        State::Secure => 3,
-    }
+    t as u8
 }
 
 pub(crate) fn no_keys() -> SessionKeys
@@ -138,27 +130,6 @@ impl Session {
         ensures { result ≡ is_at end state self }
     {
         end == self.end && state == self.state
-    }
-
-    // A step of the handshake: end, SCBK and chain stay.
-    fn moved(
-        self,
-        state: State,
-        rnd_a: [u8; 8],
-        rnd_b: [u8; 8],
-        cuid: [u8; 8],
-        keys: SessionKeys,
-    ) -> Session
-        ensures { result ≡ with_step self state rnd_a rnd_b cuid keys }
-    {
-        Session {
-            state,
-            rnd_a,
-            rnd_b,
-            cuid,
-            keys,
-            ..self
-        }
     }
 
     // Secure, with the first chain value.
@@ -245,7 +216,13 @@ impl Session {
         }
         Stepped {
             answer: Ok(()),
-            session: self.moved(State::Cryptogrammed, self.rnd_a, rnd_b, cuid, keys),
+            session: Session {
+                state: State::Cryptogrammed,
+                rnd_b,
+                cuid,
+                keys,
+                ..self
+            },
         }
     }
 
@@ -298,7 +275,13 @@ impl Session {
         let keys = SessionKeys::derive(self.scbk, rnd_a);
         Stepped {
             answer: Ok(secure_keys::client_cryptogram(keys.s_enc, rnd_a, rnd_b)),
-            session: self.moved(State::Challenged, rnd_a, rnd_b, self.cuid, keys),
+            session: Session {
+                state: State::Challenged,
+                rnd_a,
+                rnd_b,
+                keys,
+                ..self
+            },
         }
     }
 
