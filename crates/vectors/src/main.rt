@@ -1,6 +1,8 @@
 // The worked examples of FIPS 197 and of NIST SP 800-38A: how many of each group come out as the documents print them.
 #![tactic(auto)]
 
+use std::array;
+
 // A block under a key, and what it is enciphered to.
 #[derive(Clone, Copy)]
 struct Example {
@@ -74,12 +76,7 @@ fn both_ways(rt: &HostRuntime, group: &str, example: Example) {
 fn blocks(got: &[u8; 80], want: &[u8; 64]) -> [bool; 4] {
     let (got, _) = got.as_chunks::<16>();
     let (want, _) = want.as_chunks::<16>();
-    [
-        got[0] == want[0],
-        got[1] == want[1],
-        got[2] == want[2],
-        got[3] == want[3],
-    ]
+    array::from_fn(|i| got[i] == want[i])
 }
 
 // The document's four blocks fill their length, so the padding adds a fifth, which opening takes off again.
