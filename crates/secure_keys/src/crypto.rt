@@ -27,13 +27,6 @@ fn key_template(tag: u8, a: [u8; 8]) -> [u8; 16]
     block
 }
 
-// The key of a tag, under SCBK made ready.
-fn session_key(t: &aes::EncryptTables, k: &aes::EncryptKey, tag: u8, a: [u8; 8]) -> [u8; 16]
-    ensures { result ≡ enciphered t.now k.now (template tag a) }
-{
-    aes::encrypt(t, k, key_template(tag, a))
-}
-
 #[derive(Clone, Copy)]
 pub struct SessionKeys {
     pub s_enc: [u8; 16],
@@ -43,18 +36,19 @@ pub struct SessionKeys {
 
 impl SessionKeys {
     // SCBK is made ready once for the three blocks.
+    #[tactic(auto, using(aes::proofs::Laws::enciphers), unfolding(crate::specs::Keys::derive))]
     pub fn derive(scbk: [u8; 16], rnd_a: [u8; 8]) -> Self
         ensures { result ≡ derive scbk rnd_a }
     {
         let t = aes::encrypt_tables();
         let k = aes::encrypt_key(&t, scbk);
-        let s_enc = session_key(&t, &k, 0x82, rnd_a);
-        let s_mac1 = session_key(&t, &k, 0x01, rnd_a);
-        let s_mac2 = session_key(&t, &k, 0x02, rnd_a);
+        let key = |tag: u8| -> [u8; 16]
+            ensures { result ≡ enciphered t k (template tag rnd_a) }
+        { aes::encrypt(&t, &k, key_template(tag, rnd_a)) };
         SessionKeys {
-            s_enc,
-            s_mac1,
-            s_mac2,
+            s_enc: key(0x82),
+            s_mac1: key(0x01),
+            s_mac2: key(0x02),
         }
     }
 }
