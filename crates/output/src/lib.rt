@@ -1,69 +1,91 @@
-// What a program prints on standard output, piece by piece. Each call is told whether every write so far went well, and answers the same
-// after its own: once one has failed, nothing more is written. Why a write failed is said at once, on standard error, in a line that
-// begins `PROGRAM: cannot write: `.
+// What a program says: on standard output piece by piece, and on standard error what it cannot do.
 #![tactic(auto)]
 
 mod why;
 
-ghost use Rattle.std.specs.Prelude.{◌≡◌, false, ◌<◌};
+ghost use Rattle.std.specs.Prelude.{◌≡◌};
+ghost use Rattle.output.specs.Kept.{KeepsFailure};
 
+use std::fmt::Display;
 use std::io;
 pub use why::Why;
 
-// What prints: the runtime, and the program's name.
+// Who speaks: the runtime, and the program's name.
 #[derive(Clone, Copy)]
-pub struct Writer<'a> {
+pub struct Program<'a> {
     pub rt: &'a HostRuntime,
-    pub program: &'a [u8],
+    pub name: &'a [u8],
 }
 
-// Says why a write failed, and answers whether it did not.
-fn written(to: &Writer, wrote: io::Result<()>) -> bool {
-    if let Err(e) = wrote {
-        let stderr = to.rt.stderr();
-        let _ = stderr.write_all(to.program);
-        let _ = stderr.write_all(b": cannot write: ");
-        let _ = stderr.println(Why(e));
+impl Program<'_> {
+    pub fn told<T>(&self, what: &[&[u8]], outcome: io::Result<T>) -> io::Result<T>
+        ensures { result ≡ outcome }
+    {
+        outcome.inspect_err(|e| self.say_cannot(what, *e))
     }
-    wrote.is_ok()
-}
 
-pub fn put(to: &Writer, ok: bool, text: &[u8]) -> bool
-    ensures { ok ≡ false → result ≡ false }
-{
-    if !ok {
-        return false;
+    fn say_cannot(&self, what: &[&[u8]], why: io::Error) {
+        let stderr = self.rt.stderr();
+        let _ = stderr.write_all(self.name);
+        let _ = stderr.write_all(b": cannot ");
+        for part in what {
+            let _ = stderr.write_all(*part);
+        }
+        let _ = stderr.write_all(b": ");
+        let _ = stderr.println(Why(why));
     }
-    written(to, to.rt.stdout().write_all(text))
 }
 
-// What a number is, and the number in decimal.
-pub fn put_number(to: &Writer, ok: bool, name: &[u8], n: u64) -> bool
-    ensures { ok ≡ false → result ≡ false }
-{
-    put(to, ok, name) && written(to, print!(to.rt; "{n}"))
+// What prints on standard output. Why a write failed is said at once; after it nothing more is written, and each call answers it again.
+#[derive(Drop)]
+pub struct Writer<'a> {
+    pub program: Program<'a>,
+    pub so_far: io::Result<()>,
 }
 
-fn digit(n: u8) -> u8
-    requires { n < 16 }
-{
-    if n < 10 { b'0' + n } else { b'A' + (n - 10) }
-}
-
-// A byte as it stands on the line: a space and two digits.
-pub fn put_byte(to: &Writer, ok: bool, b: u8) -> bool
-    ensures { ok ≡ false → result ≡ false }
-{
-    let text = [b' ', digit(b / 16), digit(b % 16)];
-    put(to, ok, &text)
-}
-
-pub fn put_bytes(to: &Writer, ok: bool, bytes: &[u8]) -> bool
-    ensures { ok ≡ false → result ≡ false }
-{
-    let mut well = ok;
-    for i in 0..bytes.len() {
-        well = put_byte(to, well, bytes[i]);
+impl Writer<'_> {
+    fn write<F: FnOnce(&HostRuntime) -> io::Result<()>>(&mut self, write: F) -> io::Result<()>
+        requires { F.IsAlwaysCallable write }
+        ensures { KeepsFailure self.old.so_far self.new.so_far result }
+    {
+        self.so_far?;
+        self.so_far = self.program.told(&[b"write"], write(self.program.rt));
+        self.so_far
     }
-    well
+
+    pub fn put(&mut self, text: &[u8]) -> io::Result<()>
+        ensures { KeepsFailure self.old.so_far self.new.so_far result }
+    {
+        self.write(|rt| rt.stdout().write_all(text))
+    }
+
+    pub fn print<D: Display + Drop>(&mut self, text: D) -> io::Result<()>
+        ensures { KeepsFailure self.old.so_far self.new.so_far result }
+    {
+        self.write(|rt| rt.print(text))
+    }
+
+    // What a number is, and the number in decimal.
+    pub fn put_number(&mut self, name: &[u8], n: u64) -> io::Result<()>
+        ensures { KeepsFailure self.old.so_far self.new.so_far result }
+    {
+        self.put(name)?;
+        self.print(n)
+    }
+
+    // A byte as it stands on the line: a space and two digits.
+    pub fn put_byte(&mut self, b: u8) -> io::Result<()>
+        ensures { KeepsFailure self.old.so_far self.new.so_far result }
+    {
+        self.print(format_args!(" {b:02X}"))
+    }
+
+    pub fn put_bytes(&mut self, bytes: &[u8]) -> io::Result<()>
+        ensures { KeepsFailure self.old.so_far self.new.so_far result }
+    {
+        for b in bytes {
+            self.put_byte(*b)?;
+        }
+        self.so_far
+    }
 }
