@@ -2,143 +2,101 @@
 // or missing. What goes wrong is said on standard error, in a line that begins `PROGRAM: cannot `; `run` makes the exit status of it.
 #![tactic(auto)]
 
+ghost use Rattle.std.specs.Prelude.{IfOk, IfSome};
 ghost use Rattle.io.specs.Counts.{IsPrefixLen};
 
-use output::Why;
+use output::Program;
 use std::env::{Env, FillError};
+use std::fmt;
 use std::fs::File;
 use std::io::{Error, Read};
-
-// How many bytes came, at the start of the buffer; none where `all` is false, since then something went wrong.
-#[derive(Clone, Copy)]
-pub struct Came {
-    pub all: bool,
-    pub len: usize,
-}
 
 // What the system answers to a name that is too long, and to one that is not UTF-8, which std does not open.
 const ENAMETOOLONG: i32 = 36;
 
 const EILSEQ: i32 = 84;
 
-fn say(rt: &HostRuntime, text: &[u8]) {
-    let _ = rt.stderr().write_all(text);
+// What is said where the input filled a buffer of so many bytes: whether there is more is not known.
+#[derive(Clone, Copy)]
+pub struct Limit(pub usize);
+
+impl fmt::Display for Limit {
+    fn fmt<W: fmt::Write>(&self, f: &mut fmt::Formatter<W>) -> fmt::Result {
+        let most = self.0;
+        write!(
+            f,
+            "{most} bytes were read, the most it reads; anything further was not read"
+        )
+    }
 }
 
-fn say_unread(rt: &HostRuntime, program: &[u8], name: &[u8], why: Error) {
-    say(rt, program);
-    say(rt, b": cannot read ");
-    say(rt, name);
-    say(rt, b": ");
-    let _ = rt.stderr().println(Why(why));
-}
-
-// Reads until the input ends or buf is full.
-fn fill<R: Read>(
-    rt: &HostRuntime,
-    program: &[u8],
-    name: &[u8],
-    from: &mut R,
-    buf: &mut [u8],
-) -> Came
-    ensures { IsPrefixLen result.len buf.new }
+// Reads until the input ends or buf is full. Which bytes come no contract can say; those that came lie within buf.
+pub fn fill<R: Read>(from: &mut R, buf: &mut [u8]) -> Result<usize, Error>
+    ensures { IfOk result (λ n. IsPrefixLen n buf.new) }
 {
     let mut n = 0;
     while n < buf.len() {
-        let more = match from.read(&mut buf[n..]) {
-            Ok(more) => more,
-            Err(e) => {
-                say_unread(rt, program, name, e);
-                return Came { all: false, len: 0 };
-            }
-        };
+        let more = from.read(&mut buf[n..])?;
         if more == 0 {
             break;
         }
         n += more;
     }
-    Came { all: true, len: n }
-}
-
-fn read_standard_input(rt: &HostRuntime, program: &[u8], buf: &mut [u8]) -> Came
-    ensures { IsPrefixLen result.len buf.new }
-{
-    fill(rt, program, b"standard input", &mut rt.stdin(), buf)
+    Ok(n)
 }
 
 fn open(rt: &HostRuntime, name: &[u8]) -> Result<File, Error> {
-    match str::from_utf8(name) {
-        Ok(path) => File::open(rt, path),
-        Err(_) => Err(Error::from_raw_os_error(EILSEQ)),
-    }
+    let path = str::from_utf8(name).map_err(|_| Error::from_raw_os_error(EILSEQ))?;
+    File::open(rt, path)
 }
 
-fn read_file(rt: &HostRuntime, program: &[u8], name: &[u8], buf: &mut [u8]) -> Came
-    ensures { IsPrefixLen result.len buf.new }
+fn read_file(rt: &HostRuntime, name: &[u8], buf: &mut [u8]) -> Result<usize, Error>
+    ensures { IfOk result (λ n. IsPrefixLen n buf.new) }
 {
-    match open(rt, name) {
-        Ok(file) => {
-            let mut file = file;
-            fill(rt, program, name, &mut file, buf)
-        }
-        Err(e) => {
-            say_unread(rt, program, name, e);
-            Came { all: false, len: 0 }
-        }
-    }
+    fill(&mut open(rt, name)?, buf)
 }
 
-fn is_dash(name: &[u8]) -> bool {
-    if name.len() == 1 {
-        return name[0] == b'-';
-    }
-    false
-}
-
-fn read_named(rt: &HostRuntime, program: &[u8], name: &[u8], buf: &mut [u8]) -> Came
-    ensures { IsPrefixLen result.len buf.new }
+fn read_standard_input(program: &Program, buf: &mut [u8]) -> Result<usize, Error>
+    ensures { IfOk result (λ n. IsPrefixLen n buf.new) }
 {
-    if is_dash(name) {
-        return read_standard_input(rt, program, buf);
-    }
-    read_file(rt, program, name, buf)
+    program.told(
+        &[b"read standard input"],
+        fill(&mut program.rt.stdin(), buf),
+    )
 }
 
-// Whether there is an argument at a place; the program's own name has the first, 0.
-fn has_argument(rt: &HostRuntime, at: usize) -> bool {
-    match rt.arg(at, &mut []) {
-        Ok(_) => true,
-        Err(FillError::TooLong) => true,
-        Err(FillError::NotPresent) => false,
+fn read_named(program: &Program, name: &[u8], buf: &mut [u8]) -> Result<usize, Error>
+    ensures { IfOk result (λ n. IsPrefixLen n buf.new) }
+{
+    if name == b"-".as_slice() {
+        return read_standard_input(program, buf);
     }
+    program.told(&[b"read ", name], read_file(program.rt, name, buf))
 }
 
-// The first argument is copied, so one that is too long for a path is refused here.
-fn read_argument(rt: &HostRuntime, program: &[u8], buf: &mut [u8]) -> Came
-    ensures { IsPrefixLen result.len buf.new }
+// Where it is copied to, an argument that is too long for a path is too long as well.
+fn read_argument(program: &Program, buf: &mut [u8]) -> Result<usize, Error>
+    ensures { IfOk result (λ n. IsPrefixLen n buf.new) }
 {
     let mut space = io::buffer();
-    match rt.arg(1, &mut space) {
-        Ok(n) => read_named(rt, program, &space[..n], buf),
-        Err(_) => {
-            let why = Error::from_raw_os_error(ENAMETOOLONG);
-            say_unread(rt, program, b"the file named", why);
-            Came { all: false, len: 0 }
-        }
+    match program.rt.arg(1, &mut space) {
+        Ok(len) => read_named(program, &space[..len], buf),
+        Err(FillError::NotPresent) => read_standard_input(program, buf),
+        Err(FillError::TooLong) => program.told(
+            &[b"read the file named"],
+            Err(Error::from_raw_os_error(ENAMETOOLONG)),
+        ),
     }
 }
 
-// Reads until the input ends or buf is full. Which bytes come no contract can say; those that came lie within buf.
-pub fn read(rt: &HostRuntime, program: &[u8], buf: &mut [u8]) -> Came
-    ensures { IsPrefixLen result.len buf.new }
+// Fills buf as far as the input goes. There is no number where the input cannot be had.
+pub fn read(program: &Program, buf: &mut [u8]) -> Option<usize>
+    ensures { IfSome result (λ n. IsPrefixLen n buf.new) }
 {
-    if has_argument(rt, 2) {
-        say(rt, program);
-        say(rt, b": cannot take more than one file\n");
-        return Came { all: false, len: 0 };
+    if !matches!(program.rt.arg(2, &mut []), Err(FillError::NotPresent)) {
+        let _ = program.rt.stderr().write_all(program.name);
+        let _ = program.rt.eprintln(": cannot take more than one file");
+        return None;
     }
-    if !has_argument(rt, 1) {
-        return read_standard_input(rt, program, buf);
-    }
-    read_argument(rt, program, buf)
+    read_argument(program, buf).ok()
 }
