@@ -1,35 +1,22 @@
--- What a driver has in its room: what was there stays when more comes behind it, what is wanted of five bytes still is wanted, and what is
--- answered is the parse of the room's bytes, whatever follows them.
+-- What a driver has in its room: what is wanted of five bytes still is wanted when more come behind them, and what is answered is the
+-- parse of the room's bytes, whatever follows them.
 -- Assumes nothing.
 use mathlib.Core.Path.{◌≡◌, sym, ap, ◌∙◌, subst}
 use mathlib.Core.List.{List, [], ◌∷◌, ◌++◌}
 use Prim.Native.Nat.{ℕ, ◌+◌, ◌-◌, ◌≤◌, ◌<◌}
 use native.Mathlib.Omega.{arith}
 use lib.ListN.{length, take}
-use lib.Seq.{take-take, take-append-le, length-take-le}
+use lib.Seq.{take-take, length-take-le}
+use Rattle.std.specs.Prelude.{Result}
+use Rattle.std.specs.declared.result.Result.TheVariants.{Ok}
 use Rattle.laws.specs.Answer.{Answer.given, Answer.refused}
+use Rattle.refusal.specs.declared.Refusal.{Refusal}
 use Rattle.packet_parse.specs.Frame.{Head, head_of, parse_of, fields, parsed}
 use Rattle.packet_parse.specs.Driver.{wanted_of}
-use Rattle.packet_parse.specs.declared.codec.Parsed.{Parsed}
 use Rattle.packet_parse.specs.declared.codec.ParsedPacket.{ParsedPacket}
 use Rattle.packet_parse.proofs.Arriving.{parse_of_refused, parse_waits, parse_decided, accepted_wanted, wanted_as, wanted_of_five, five_wanted}
-use Rattle.driver.specs.Arrives.{Arrives, Fills}
+use Rattle.driver.specs.Arrives.{Arrives}
 use Rattle.driver.specs.declared.arrive.Arrival.{Arrival}
-use Rattle.driver.specs.declared.arrive.There.{There}
-
--- ---- filling the room
-
--- bytes that come at `n` or behind it leave the first `have` as they were
-pub front_kept : (have n : ℕ) (room tail first : List ℕ) → have ≤ n → n ≤ length room → take have room ≡ first → take have (take n room ++ tail) ≡ first
-front_kept have n room tail first h l e =
-    let m : length (take n room) ≡ n = length-take-le n room l in
-    take-append-le have (take n room) tail (omega arith) ∙ take-take have n room h ∙ e
-
-pub filled_all : (have want : ℕ) (t : There) (n : ℕ) → Fills have want t → t ≡ There.All n → n ≡ want
-filled_all have want t n f e = let k : Fills have want (There.All n) = subst (Fills have want) e f in k
-
-pub filled_ended : (have want : ℕ) (t : There) (n : ℕ) → Fills have want t → t ≡ There.Ended n → (have ≤ n) × (n < want)
-filled_ended have want t n f e = let k : Fills have want (There.Ended n) = subst (Fills have want) e f in k
 
 -- ---- what is wanted
 
@@ -61,24 +48,24 @@ few_wanted room n h = let w = five_wanted (take n room) in omega arith
 -- ---- what is answered
 
 -- what was read lies within the room
-pub read_within : (room : List ℕ) (r : Arrival) (p : Parsed) (n : ℕ) → Arrives room r → r ≡ Arrival.Read p n → (n ≤ length room) × (5 ≤ n)
+pub read_within : (room : List ℕ) (r : Arrival) (p : Result ParsedPacket Refusal) (n : ℕ) → Arrives room (Ok r) → r ≡ Arrival.Read p n → (5 ≤ n) × (n ≤ length room)
 read_within room r p n h e =
-    let k : Arrives room (Arrival.Read p n) = subst (Arrives room) e h in
+    let a : Arrives room (Ok (Arrival.Read p n)) = subst (λ x. Arrives room (Ok x)) e h in
     let w = five_wanted (take n room) in
-    (k.0, omega (arith, k.1))
+    (omega (arith, a.1), a.0)
 
 -- It is the parse of what was read, whatever follows,
-pub read_as_line : (room u : List ℕ) (p : Parsed) (n : ℕ) → Arrives room (Arrival.Read p n) → parsed p ≡ parse_of (take n room ++ u)
+pub read_as_line : (room u : List ℕ) (p : Result ParsedPacket Refusal) (n : ℕ) → Arrives room (Ok (Arrival.Read p n)) → parsed p ≡ parse_of (take n room ++ u)
 read_as_line room u p n a =
     let size : length (take n room) ≡ n = length-take-le n room a.0 in
     a.2 ∙ sym (parse_decided (take n room) u (omega (arith, a.1)))
 
 -- and where it accepts, just the frame was read;
-pub read_whole_frame : (room : List ℕ) (p : ParsedPacket) (n : ℕ) → Arrives room (Arrival.Read (Ok p) n) → n ≡ p.len
+pub read_whole_frame : (room : List ℕ) (p : ParsedPacket) (n : ℕ) → Arrives room (Ok (Arrival.Read (Ok p) n)) → n ≡ p.len
 read_whole_frame room p n a = sym a.1 ∙ accepted_wanted (take n room) (fields p) (sym a.2)
 
 -- of a line that ended before, it is refusal 1, with how many bytes came and how many are wanted.
-pub cut-refused : (room : List ℕ) (p : Parsed) (n : ℕ) → Arrives room (Arrival.Cut p n) → parsed p ≡ refused 1 (n ∷ wanted_of (take n room) ∷ [])
+pub cut-refused : (room : List ℕ) (p : Result ParsedPacket Refusal) (n : ℕ) → Arrives room (Ok (Arrival.Cut p n)) → parsed p ≡ refused 1 (n ∷ wanted_of (take n room) ∷ [])
 cut-refused room p n a =
     let size : length (take n room) ≡ n = length-take-le n room a.0 in
     a.2 ∙ parse_waits (take n room) (omega (arith, a.1)) ∙ ap (λ (k : ℕ). refused 1 (k ∷ wanted_of (take n room) ∷ [])) size

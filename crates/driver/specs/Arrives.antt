@@ -5,18 +5,14 @@ use Rattle.std.specs.Prelude.{ℕ, ◌≤◌, ◌<◌, ◌≡◌, List, length, 
 use Rattle.packet_head.specs.Numbers.{HEADER_LEN}
 use Rattle.packet_parse.specs.Frame.{parse_of, parsed}
 use Rattle.packet_parse.specs.Driver.{wanted_of}
+use Rattle.std.specs.declared.result.Result.{Result}
+use Rattle.std.specs.declared.result.Result.TheVariants.{Ok, Err}
 use Rattle.driver.specs.declared.arrive.Arrival.{Arrival}
-use Rattle.driver.specs.declared.arrive.There.{There}
+use Rattle.driver.specs.declared.arrive.Trouble.{Trouble}
 
 -- the first n bytes are there: as many as are wanted, fewer, or more are wanted than there is room for
-abbrev pub Arrives : List ℕ → Arrival → Type 0
-Arrives room (Arrival.Read answer n) = (n ≤ length room) × (wanted_of (take n room) ≡ n) × (parsed answer ≡ parse_of (take n room))
-Arrives room (Arrival.Cut answer n) = (n ≤ length room) × (n < wanted_of (take n room)) × (parsed answer ≡ parse_of (take n room))
-Arrives room (Arrival.TooLong n) = (wanted_of (take HEADER_LEN room) ≡ n) × (length room < n)
-Arrives room (Arrival.Failed e) = Unit {0}
-
--- how many are there, from `have` on: all of `want`, or fewer
-abbrev pub Fills : (have want : ℕ) → There → Type 0
-Fills have want (There.All n) = n ≡ want
-Fills have want (There.Ended n) = (have ≤ n) × (n < want)
-Fills have want (There.Failed e) = Unit {0}
+abbrev pub Arrives : List ℕ → Result Arrival Trouble → Type 0
+Arrives room (Ok (Arrival.Read answer n)) = (n ≤ length room) × (wanted_of (take n room) ≡ n) × (parsed answer ≡ parse_of (take n room))
+Arrives room (Ok (Arrival.Cut answer n)) = (n ≤ length room) × (n < wanted_of (take n room)) × (parsed answer ≡ parse_of (take n room))
+Arrives room (Err (Trouble.TooLong n)) = (wanted_of (take HEADER_LEN room) ≡ n) × (length room < n)
+Arrives room (Err (Trouble.Failed e)) = Unit {0}

@@ -4,86 +4,79 @@
 
 mod arrive;
 
-use arrive::{Arrival, ROOM, frame_from};
-use output::Why;
-use packet_parse::Parsed;
+ghost use Rattle.std.specs.Prelude.{◌≤◌, length, IfSome};
+
+use arrive::{Arrival, ROOM, Trouble, frame_from};
+use output::{Program, Writer};
+use packet_parse::ParsedPacket;
+use refusal::Refusal;
 use std::env::{Env, FillError};
-use std::io;
+use std::io::Read;
 
 // Where it stops, without a word, so that it ends on a line that does not: at 115,200 baud after twelve million years.
 const LONGEST: usize = 0x4000_0000_0000_0000;
 
-fn say_too_long(rt: &HostRuntime, at: usize, len: usize) {
-    let _ = eprintln!(rt; "driver: cannot hold the {len} bytes of the frame at {at}, only {ROOM}");
-}
-
-// Why a call failed, as the caller names it.
-fn fail(rt: &HostRuntime, what: &str, e: io::Error) {
-    let _ = rt.eprint(what);
-    let _ = rt.eprintln(Why(e));
-}
-
-// Lists what was read, and answers whether to go on.
-fn put_read(rt: &HostRuntime, at: usize, answer: Parsed) -> bool {
+// Lists what was read. After a refusal, and after a write that failed, there is no more to list.
+fn put_read(to: &mut Writer, at: usize, answer: Result<ParsedPacket, Refusal>) -> Option<()> {
     match answer {
-        Ok(p) => listing::put_frame(rt, b"driver", true, at, p),
+        Ok(p) => listing::put_frame(to, at, p).ok(),
         Err(e) => {
-            listing::put_refusal(rt, b"driver", true, at, e);
-            false
+            let _ = listing::put_refusal(to, at, e);
+            None
         }
     }
 }
 
-fn has_arguments(rt: &HostRuntime) -> bool {
-    match rt.arg(1, &mut []) {
-        Ok(_) => true,
-        Err(FillError::TooLong) => true,
-        Err(FillError::NotPresent) => false,
+// Lists the next frame, and answers how long it is, unless the listing ends with it.
+fn list_next<L: Read>(to: &mut Writer, line: &mut L, room: &mut [u8], at: usize) -> Option<usize>
+    ensures { IfSome result (λ len. (5 ≤ len) × (len ≤ length room.new)) }
+{
+    match frame_from(line, room) {
+        Ok(Arrival::Read { answer, len }) => {
+            put_read(to, at, answer)?;
+            Some(len)
+        }
+        Ok(Arrival::Cut { answer, len }) => {
+            if 0 < len {
+                put_read(to, at, answer);
+            }
+            None
+        }
+        Err(Trouble::TooLong(len)) => {
+            let _ = eprintln!(to.program.rt;
+                "driver: cannot hold the {len} bytes of the frame at {at}, only {ROOM}"
+            );
+            None
+        }
+        Err(Trouble::Failed(e)) => to.program.told(&[b"read"], Err(e)).ok(),
     }
 }
 
-// Whether there is a line to read and a listing to write.
-fn begin(rt: &HostRuntime) -> bool {
-    if has_arguments(rt) {
-        let _ = rt.eprintln("driver: cannot take arguments; it reads standard input");
-        return false;
-    }
-    let wrote = println!(rt; "at len addr sqn code data");
-    if let Err(e) = wrote {
-        fail(rt, "driver: cannot write: ", e);
-    }
-    wrote.is_ok()
-}
-
-fn main(rt: HostRuntime) {
-    if !begin(&rt) {
-        return;
-    }
-    let mut line = rt.stdin();
+fn list<L: Read>(to: &mut Writer, line: &mut L) {
     let mut room = [0u8; ROOM];
     let mut at = 0;
     while at < LONGEST {
-        match frame_from(&mut line, &mut room) {
-            Arrival::Read { answer, len } => {
-                if !put_read(&rt, at, answer) {
-                    return;
-                }
-                at += len;
-            }
-            Arrival::Cut { answer, len } => {
-                if 0 < len {
-                    put_read(&rt, at, answer);
-                }
-                return;
-            }
-            Arrival::TooLong(len) => {
-                say_too_long(&rt, at, len);
-                return;
-            }
-            Arrival::Failed(e) => {
-                fail(&rt, "driver: cannot read: ", e);
-                return;
-            }
-        }
+        let Some(len) = list_next(to, line, &mut room, at) else {
+            return;
+        };
+        at += len;
+    }
+}
+
+fn main(rt: HostRuntime) {
+    if !matches!(rt.arg(1, &mut []), Err(FillError::NotPresent)) {
+        let _ = rt.eprintln("driver: cannot take arguments; it reads standard input");
+        return;
+    }
+    let program = Program {
+        rt: &rt,
+        name: b"driver",
+    };
+    let mut to = Writer {
+        program,
+        so_far: Ok(()),
+    };
+    if listing::put_title(&mut to).is_ok() {
+        list(&mut to, &mut rt.stdin());
     }
 }

@@ -15,6 +15,13 @@ use reason::Reason;
 use refusal::Refusal;
 use std::io;
 
+// The listing's first line.
+pub fn put_title(to: &mut Writer) -> io::Result<()>
+    ensures { KeepsFailure to.old.so_far to.new.so_far result }
+{
+    to.put(b"at len addr sqn code data\n")
+}
+
 // A frame's line.
 pub fn put_frame(to: &mut Writer, at: usize, p: ParsedPacket) -> io::Result<()>
     ensures { KeepsFailure to.old.so_far to.new.so_far result }
@@ -68,7 +75,7 @@ pub fn list(rt: &HostRuntime, capture: &[u8]) -> usize
         program: framelist(rt),
         so_far: Ok(()),
     };
-    let _ = to.print("at len addr sqn code data\n");
+    let _ = put_title(&mut to);
     let mut at = 0;
     while at < capture.len() {
         let Ok(p) = frame_at(&mut to, capture, at) else {

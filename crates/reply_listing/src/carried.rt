@@ -3,14 +3,15 @@ ghost use Rattle.std.specs.Prelude.{◌≡◌};
 ghost use Rattle.packet_parse.specs.Frame.{fields};
 ghost use Rattle.reply_listing.specs.InClear.{reply_in, reply_told};
 
-use body_read::ReadAnswer;
-use packet_parse::{MacPart, ParsedPacket};
+use body_read::Body;
+use packet_parse::ParsedPacket;
+use refusal::Refusal;
 
 #[derive(Clone, Copy)]
 pub(crate) enum Reply {
     NoReply,
     Sealed,
-    Clear(ReadAnswer),
+    Clear(Result<Body, Refusal>),
 }
 
 // The reply in the frame p with this payload. One under a MAC is not looked at: what it says is not known to be what the reader sent.
@@ -20,8 +21,7 @@ pub(crate) fn reply_in(p: ParsedPacket, payload: &[u8]) -> Reply
     if !p.addr.is_reply() {
         return Reply::NoReply;
     }
-    let mac = p.mac;
-    match mac {
+    match p.mac {
         None => Reply::Clear(body_read::read(p.code, payload)),
         Some(_) => Reply::Sealed,
     }

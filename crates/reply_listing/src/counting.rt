@@ -1,14 +1,11 @@
 // What a listing passed, in numbers.
-ghost use Rattle.std.specs.Prelude.{◌≡◌, List, ℕ, ◌+◌, ◌≤◌};
-ghost use Rattle.reply_listing.specs.InClear.{reply_told};
-ghost use Rattle.reply_listing.specs.Tallied.{RoomFor, tally_more};
+ghost use Rattle.std.specs.Prelude.{◌≡◌, List, ℕ};
 
 use super::carried::Reply;
-use body_read::ReadAnswer;
 
 // How many bytes were frames; how many frames had a reply in the clear, and how many of those a body that is refused; how many had a
 // sealed reply.
-#[derive(Clone, Copy)]
+#[derive(Clone, Copy, Default)]
 pub struct Tally {
     pub bytes: usize,
     pub replies: usize,
@@ -16,30 +13,24 @@ pub struct Tally {
     pub sealed: usize,
 }
 
-// Each of the last three is 0 or 1.
-fn more(t: Tally, len: usize, replies: usize, refused: usize, sealed: usize) -> Tally
-    requires { (RoomFor t len) × (replies ≤ 1) × (refused ≤ 1) × (sealed ≤ 1) }
-    ensures { result ≡ record { bytes = t.bytes + len; replies = t.replies + replies; refused = t.refused + refused; sealed = t.sealed + sealed } }
-{
-    Tally {
-        bytes: t.bytes + len,
-        replies: t.replies + replies,
-        refused: t.refused + refused,
-        sealed: t.sealed + sealed,
-    }
-}
+impl Tally {
+    ghost use Rattle.reply_listing.specs.InClear.{reply_told};
+    ghost use Rattle.reply_listing.specs.Tallied.{RoomFor, tally_more};
 
-// A frame of len bytes more, and what its reply counts for. The payload that it was read from makes no difference to that.
-pub(crate) fn counted(t: Tally, len: usize, reply: Reply) -> Tally
-    requires { RoomFor t len }
-    ensures { (s : List ℕ) → result ≡ tally_more t len (reply_told reply s) }
-{
-    match reply {
-        Reply::NoReply => more(t, len, 0, 0, 0),
-        Reply::Sealed => more(t, len, 0, 0, 1),
-        Reply::Clear(answer) => match answer {
-            Ok(_) => more(t, len, 1, 0, 0),
-            Err(_) => more(t, len, 1, 1, 0),
-        },
+    // A frame of len bytes more, and what its reply counts for. The payload that it was read from makes no difference to that.
+    pub(crate) fn count(&mut self, len: usize, reply: Reply)
+        requires { RoomFor self.old len }
+        ensures { (s : List ℕ) → self.new ≡ tally_more self.old len (reply_told reply s) }
+    {
+        self.bytes += len;
+        match reply {
+            Reply::NoReply => {}
+            Reply::Sealed => self.sealed += 1,
+            Reply::Clear(Ok(_)) => self.replies += 1,
+            Reply::Clear(Err(_)) => {
+                self.replies += 1;
+                self.refused += 1;
+            }
+        }
     }
 }

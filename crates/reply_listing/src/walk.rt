@@ -3,38 +3,37 @@ ghost use Rattle.std.specs.Prelude.{◌≡◌};
 ghost use Rattle.listing.specs.Listed.{frames_in};
 ghost use Rattle.reply_listing.specs.Tallied.{tally_of};
 
-use super::carried::reply_in;
-use super::counting::{Tally, counted};
-use super::words::{put_reply, put_title};
-use output::Writer;
-use packet_parse::Parsed;
+use super::carried::{Reply, reply_in};
+use super::counting::Tally;
+use super::words::put_line;
+use listing::frame_at;
+use output::{Program, Writer};
 
-// Lists, and answers what was passed, up to the end or the first refused frame.
+// Lists, and answers what was passed, up to the end or the first refused frame. A write that fails does not end it.
 pub fn list(rt: &HostRuntime, capture: &[u8]) -> Tally
     ensures { result ≡ tally_of (frames_in capture.now) }
 {
-    let to = Writer {
+    let program = Program {
         rt,
-        program: b"replies",
+        name: b"replies",
     };
-    let mut ok = put_title(&to);
-    let mut t = Tally {
-        bytes: 0,
-        replies: 0,
-        refused: 0,
-        sealed: 0,
+    let mut to = Writer {
+        program,
+        so_far: Ok(()),
     };
+    let _ = to.put(b"at addr reply\n");
+    let mut t = Tally::default();
     while t.bytes < capture.len() {
         let at = t.bytes;
-        match listing::frame_at(rt, b"replies", ok, capture, at) {
-            Ok(p) => {
-                let payload = slices::part(capture, at + p.data_start, p.data_len);
-                let reply = reply_in(p, payload);
-                ok = put_reply(&to, ok, at, p, payload, reply);
-                t = counted(t, p.len, reply);
-            }
-            Err(_) => return t,
+        let Ok(p) = frame_at(&mut to, capture, at) else {
+            return t;
+        };
+        let payload = slices::part(capture, at + p.data_start, p.data_len);
+        let reply = reply_in(p, payload);
+        if let Reply::Clear(answer) = reply {
+            let _ = put_line(&mut to, at, p, payload, answer);
         }
+        t.count(p.len, reply);
     }
     t
 }

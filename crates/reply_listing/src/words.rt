@@ -1,159 +1,79 @@
-// What is printed of a reply. A call that writes is told whether every write so far went well, and answers the same after its own: once
-// one has failed, nothing more is written.
-use super::carried::Reply;
-use body_read::{BadgeAnswer, Body, ReadAnswer, TripleAnswer, badge_number, rest, triple_at};
-use output::{Writer, put, put_byte, put_bytes, put_number};
+// What is printed of a reply.
+use body_read::{Body, DeviceId, badge_number, rest, triple_at};
+use output::Writer;
 use packet_parse::ParsedPacket;
+use refusal::Refusal;
+use std::io;
 
-fn put_triple(to: &Writer, ok: bool, triple: TripleAnswer) -> bool {
-    match triple {
-        Some(t) => {
-            let function = put_number(to, ok, b" function ", t.function as u64);
-            let compliance = put_number(to, function, b" compliance ", t.compliance as u64);
-            put_number(to, compliance, b" number ", t.number as u64)
-        }
-        None => ok,
-    }
+fn put_device(to: &mut Writer, id: DeviceId) -> io::Result<()> {
+    let DeviceId { vendor, model, version, serial, major, minor, build } = id;
+    to.put(b" vendor")?;
+    to.put_bytes(&vendor)?;
+    to.print(format_args!(" model {model} version {version} serial {serial} firmware {major} {minor} {build}"))
 }
 
-fn put_triples(to: &Writer, ok: bool, body: Body, payload: &[u8]) -> bool {
-    let mut ok = ok;
+fn put_triples(to: &mut Writer, body: Body, payload: &[u8]) -> io::Result<()> {
     for i in 0..payload.len() / 3 {
-        ok = put_triple(to, ok, triple_at(body, payload, i));
+        if let Some(t) = triple_at(body, payload, i) {
+            to.print(format_args!(" function {} compliance {} number {}", t.function, t.compliance, t.number))?;
+        }
     }
-    ok
-}
-
-fn put_pdid(
-    to: &Writer,
-    ok: bool,
-    vendor: [u8; 3],
-    model: u8,
-    version: u8,
-    serial: u32,
-    major: u8,
-    minor: u8,
-    build: u8,
-) -> bool {
-    let made = put_bytes(to, put(to, ok, b" vendor"), &vendor);
-    let of_model = put_number(to, made, b" model ", model as u64);
-    let of_version = put_number(to, of_model, b" version ", version as u64);
-    let of_serial = put_number(to, of_version, b" serial ", serial as u64);
-    let of_major = put_number(to, of_serial, b" firmware ", major as u64);
-    let of_minor = put_number(to, of_major, b" ", minor as u64);
-    put_number(to, of_minor, b" ", build as u64)
-}
-
-// The badge as one number, where its bits are one.
-fn put_badge(to: &Writer, ok: bool, badge: BadgeAnswer) -> bool {
-    match badge {
-        Some(n) => put_number(to, ok, b" number ", n),
-        None => ok,
-    }
-}
-
-fn put_raw(
-    to: &Writer,
-    ok: bool,
-    body: Body,
-    payload: &[u8],
-    reader: u8,
-    format: u8,
-    bits: u16,
-) -> bool {
-    let of_reader = put_number(to, ok, b" reader ", reader as u64);
-    let of_format = put_number(to, of_reader, b" format ", format as u64);
-    let counted = put_number(to, of_format, b" bits ", bits as u64);
-    let shown = put_bytes(to, counted, rest(body, payload));
-    put_badge(to, shown, badge_number(body, payload))
-}
-
-fn put_keypad(to: &Writer, ok: bool, body: Body, payload: &[u8], reader: u8, count: u8) -> bool {
-    let of_reader = put_number(to, ok, b" reader ", reader as u64);
-    let counted = put_number(to, of_reader, b" digits ", count as u64);
-    put_bytes(to, counted, rest(body, payload))
+    Ok(())
 }
 
 // What a body says, in the table's order.
-fn put_body(to: &Writer, ok: bool, body: Body, payload: &[u8]) -> bool {
+fn put_body(to: &mut Writer, body: Body, payload: &[u8]) -> io::Result<()> {
     match body {
-        Body::Ack => ok,
+        Body::Ack => Ok(()),
         Body::Nak { error } => {
-            let said = put_number(to, ok, b" error ", error as u64);
-            put_bytes(to, said, rest(body, payload))
+            to.put_number(b" error ", error.into())?;
+            to.put_bytes(rest(body, payload))
         }
-        Body::PdId {
-            vendor1,
-            vendor2,
-            vendor3,
-            model,
-            version,
-            serial,
-            major,
-            minor,
-            build,
-        } => {
-            let vendor = [vendor1, vendor2, vendor3];
-            put_pdid(to, ok, vendor, model, version, serial, major, minor, build)
+        Body::PdId(id) => put_device(to, id),
+        Body::PdCap => put_triples(to, body, payload),
+        Body::LStatR { tamper, power } => to.print(format_args!(" tamper {tamper} power {power}")),
+        Body::Raw { reader, format, bits } => {
+            to.print(format_args!(" reader {reader} format {format} bits {bits}"))?;
+            to.put_bytes(rest(body, payload))?;
+            match badge_number(body, payload) {
+                Some(n) => to.put_number(b" number ", n),
+                None => Ok(()),
+            }
         }
-        Body::PdCap => put_triples(to, ok, body, payload),
-        Body::LStatR { tamper, power } => {
-            let of_tamper = put_number(to, ok, b" tamper ", tamper as u64);
-            put_number(to, of_tamper, b" power ", power as u64)
+        Body::Keypad { reader, count } => {
+            to.print(format_args!(" reader {reader} digits {count}"))?;
+            to.put_bytes(rest(body, payload))
         }
-        Body::Raw {
-            reader,
-            format,
-            bits,
-        } => put_raw(to, ok, body, payload, reader, format, bits),
-        Body::Keypad { reader, count } => put_keypad(to, ok, body, payload, reader, count),
     }
 }
 
 // A code that is not listed has no name, and stands as the byte that it is.
-fn put_name(to: &Writer, ok: bool, code: u8) -> bool {
+fn put_name(to: &mut Writer, code: u8) -> io::Result<()> {
     match code {
-        0x40 => put(to, ok, b" ACK"),
-        0x41 => put(to, ok, b" NAK"),
-        0x45 => put(to, ok, b" PDID"),
-        0x46 => put(to, ok, b" PDCAP"),
-        0x48 => put(to, ok, b" LSTATR"),
-        0x50 => put(to, ok, b" RAW"),
-        0x53 => put(to, ok, b" KEYPAD"),
-        _ => put_byte(to, ok, code),
+        0x40 => to.put(b" ACK"),
+        0x41 => to.put(b" NAK"),
+        0x45 => to.put(b" PDID"),
+        0x46 => to.put(b" PDCAP"),
+        0x48 => to.put(b" LSTATR"),
+        0x50 => to.put(b" RAW"),
+        0x53 => to.put(b" KEYPAD"),
+        _ => to.put_byte(code),
     }
-}
-
-pub(crate) fn put_title(to: &Writer) -> bool {
-    put(to, true, b"at addr reply\n")
-}
-
-fn put_line(to: &Writer, at: usize, p: ParsedPacket, payload: &[u8], answer: ReadAnswer) -> bool {
-    let placed = put_number(to, true, b"", at as u64);
-    let addressed = put_number(to, placed, b" ", p.addr.as_byte() as u64);
-    let named = put_name(to, addressed, p.code);
-    let said = match answer {
-        Ok(body) => put_body(to, named, body, payload),
-        Err(e) => put_number(to, named, b" refused ", e.number() as u64),
-    };
-    put(to, said, b"\n")
 }
 
 // The line of a reply in the clear.
-pub(crate) fn put_reply(
-    to: &Writer,
-    ok: bool,
+pub(crate) fn put_line(
+    to: &mut Writer,
     at: usize,
     p: ParsedPacket,
     payload: &[u8],
-    reply: Reply,
-) -> bool {
-    if !ok {
-        return false;
+    answer: Result<Body, Refusal>,
+) -> io::Result<()> {
+    to.print(format_args!("{at} {}", p.addr.as_byte()))?;
+    put_name(to, p.code)?;
+    match answer {
+        Ok(body) => put_body(to, body, payload)?,
+        Err(e) => to.put_number(b" refused ", e.number().into())?,
     }
-    match reply {
-        Reply::NoReply => true,
-        Reply::Sealed => true,
-        Reply::Clear(answer) => put_line(to, at, p, payload, answer),
-    }
+    to.put(b"\n")
 }

@@ -8,12 +8,12 @@ pub returns-then-room-lt-HEADER_LEN : goal.returns-then-room-lt-HEADER_LEN
 returns-then-room-lt-HEADER_LEN g c =
     let few = c.if-room-lt-HEADER_LEN.true in (wanted_of_five c.args.room.now ∙ wanted_of_few _ few, few)
 
+pub returns-then-len-lt-HEADER_LEN : goal.returns-then-len-lt-HEADER_LEN
+returns-then-len-lt-HEADER_LEN g c = (search rules, few_wanted _ _ c.if-len-lt-HEADER_LEN.true, c.parse-answer.ensures)
+
 pub rest_from-requires-clause-room_value : goal.rest_from-requires-clause-room_value
-rest_from-requires-clause-room_value g c = wanted_answered _ _ _ c.in-All.ensures.fills (sym c.in-Good.ensures)
+rest_from-requires-clause-room_value g c = wanted_answered _ c.in_ok-len.len _ (search rules) (sym c.in-Ok.ensures)
 
-pub returns-in-Refused : goal.returns-in-Refused
-returns-in-Refused g c =
-    let w = wanted_refused _ _ _ _ c.in-All.ensures.fills (sym c.in-Refused.ensures) in (search rules, w.0, w.1)
-
-pub returns-in-Ended : goal.returns-in-Ended
-returns-in-Ended g c = (search rules, few_wanted _ _ c.in-Ended.ensures.fills.1, c.parse.ensures)
+pub returns-in-Err : goal.returns-in-Err
+returns-in-Err g c =
+    let w = wanted_refused _ c.in_ok-len.len _ _ (search rules) (sym c.in-Err.ensures) in (search rules, w.0, w.1)

@@ -1,18 +1,15 @@
 -- The first five bytes stay, so what they want still is wanted; what has come is parsed.
-use Rattle.std.proofs.Common.{rules, ◌≡◌, ◌+◌, ℕ, take, sym, ap, ◌∙◌, arith}
-use Rattle.packet_parse.specs.Driver.{wanted_of}
+use Rattle.std.proofs.Common.{rules, arith}
+use Rattle.std.proofs.lemmas.Slice.{take-put_mid_below}
 use Rattle.driver.proofs.Room.{all_came, fewer_came}
 use Rattle.driver.proofs.arrive.rest_from.Goals as goal
 
-pub returns-in-All : goal.returns-in-All
-returns-in-All g c =
-    let w : wanted_of (take 5 c.args.room.now) ≡ 5 + c.after_five-wanted.result
-    = c.requires.room_value ∙ ap (λ (k : ℕ). 5 + k) (sym c.after_five-wanted.ensures) in
-    (search rules, all_came _ c.args.room.now _ _ c.in-All.ensures.room_unchanged w (omega arith) c.in-All.ensures.fills, c.parse.ensures)
+pub returns-then-came-wanted : goal.returns-then-came-wanted
+returns-then-came-wanted g c =
+    let same = take-put_mid_below 5 _ c.args.room.now c.fill.new.buf 5 (omega arith) c.requires.header_len_in_bounds in
+    (search rules, fewer_came _ _ _ _ same c.requires.room_value (omega arith) (search rules), c.parse-answer.ensures)
 
-pub returns-in-Ended : goal.returns-in-Ended
-returns-in-Ended g c =
-    let w : wanted_of (take 5 c.args.room.now) ≡ 5 + c.after_five-wanted.result
-    = c.requires.room_value ∙ ap (λ (k : ℕ). 5 + k) (sym c.after_five-wanted.ensures) in
-    let few = c.in-Ended.ensures.fills in
-    (search rules, fewer_came _ c.args.room.now _ _ c.in-Ended.ensures.room_unchanged w few.0 few.1, c.parse-in-Ended.ensures)
+pub returns : goal.returns
+returns g c =
+    let same = take-put_mid_below 5 _ c.args.room.now c.fill.new.buf 5 (omega arith) c.requires.header_len_in_bounds in
+    (search rules, all_came _ _ _ _ same c.requires.room_value (omega arith) (search rules), c.parse-answer.ensures)
