@@ -3,9 +3,9 @@ ghost use Rattle.std.specs.Prelude.{◌≡◌};
 ghost use Rattle.listing.specs.Listed.{frames_in};
 ghost use Rattle.reply_listing.specs.Tallied.{tally_of};
 
-use super::carried::{Reply, reply_in};
+use super::carried::reply_in;
 use super::counting::Tally;
-use super::words::put_line;
+use super::words::put_reply;
 use listing::frame_at;
 use output::{Program, Writer};
 
@@ -30,9 +30,7 @@ pub fn list(rt: &HostRuntime, capture: &[u8]) -> Tally
         };
         let payload = slices::part(capture, at + p.data_start, p.data_len);
         let reply = reply_in(p, payload);
-        if let Reply::Clear(answer) = reply {
-            let _ = put_line(&mut to, at, p, payload, answer);
-        }
+        let _ = put_reply(&mut to, at, p, payload, reply);
         t.count(p.len, reply);
     }
     t

@@ -1,21 +1,27 @@
 // What is printed of a reply.
+use super::carried::Reply;
 use body_read::{Body, DeviceId, badge_number, rest, triple_at};
 use output::Writer;
 use packet_parse::ParsedPacket;
-use refusal::Refusal;
 use std::io;
 
 fn put_device(to: &mut Writer, id: DeviceId) -> io::Result<()> {
-    let DeviceId { vendor, model, version, serial, major, minor, build } = id;
     to.put(b" vendor")?;
-    to.put_bytes(&vendor)?;
-    to.print(format_args!(" model {model} version {version} serial {serial} firmware {major} {minor} {build}"))
+    to.put_bytes(&[id.vendor1, id.vendor2, id.vendor3])?;
+    to.print(format_args!(
+        " model {} version {} serial {}",
+        id.model, id.version, id.serial
+    ))?;
+    to.print(format_args!(" firmware {} {} {}", id.major, id.minor, id.build))
 }
 
 fn put_triples(to: &mut Writer, body: Body, payload: &[u8]) -> io::Result<()> {
     for i in 0..payload.len() / 3 {
         if let Some(t) = triple_at(body, payload, i) {
-            to.print(format_args!(" function {} compliance {} number {}", t.function, t.compliance, t.number))?;
+            to.print(format_args!(
+                " function {} compliance {} number {}",
+                t.function, t.compliance, t.number
+            ))?;
         }
     }
     Ok(())
@@ -32,7 +38,11 @@ fn put_body(to: &mut Writer, body: Body, payload: &[u8]) -> io::Result<()> {
         Body::PdId(id) => put_device(to, id),
         Body::PdCap => put_triples(to, body, payload),
         Body::LStatR { tamper, power } => to.print(format_args!(" tamper {tamper} power {power}")),
-        Body::Raw { reader, format, bits } => {
+        Body::Raw {
+            reader,
+            format,
+            bits,
+        } => {
             to.print(format_args!(" reader {reader} format {format} bits {bits}"))?;
             to.put_bytes(rest(body, payload))?;
             match badge_number(body, payload) {
@@ -61,14 +71,17 @@ fn put_name(to: &mut Writer, code: u8) -> io::Result<()> {
     }
 }
 
-// The line of a reply in the clear.
-pub(crate) fn put_line(
+// The line of a reply in the clear; any other reply has none.
+pub(crate) fn put_reply(
     to: &mut Writer,
     at: usize,
     p: ParsedPacket,
     payload: &[u8],
-    answer: Result<Body, Refusal>,
+    reply: Reply,
 ) -> io::Result<()> {
+    let Reply::Clear(answer) = reply else {
+        return Ok(());
+    };
     to.print(format_args!("{at} {}", p.addr.as_byte()))?;
     put_name(to, p.code)?;
     match answer {

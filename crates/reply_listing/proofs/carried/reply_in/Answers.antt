@@ -8,9 +8,9 @@ use Rattle.reply_listing.proofs.carried.reply_in.Goals as goal
 pub returns-then-not-is_reply : goal.returns-then-not-is_reply
 returns-then-not-is_reply c = reply-none (fields c.args.p) _ c.if-not-is_reply.ensures refl
 
-pub returns-in-Absent : goal.returns-in-Absent
-returns-in-Absent c =
-    ap clear c.read.ensures ∙ reply-clear (fields c.args.p) _ c.if-not-is_reply.ensures refl (ap mac_place c.in-Absent.is)
+pub returns-in-None : goal.returns-in-None
+returns-in-None c =
+    ap clear c.read.ensures ∙ reply-clear (fields c.args.p) _ c.if-not-is_reply.ensures refl (ap mac_place c.in-None.is)
 
-pub returns-in-At : goal.returns-in-At
-returns-in-At c = reply-sealed (fields c.args.p) _ c.if-not-is_reply.ensures refl (ap mac_place c.in-At.is)
+pub returns-in-Some : goal.returns-in-Some
+returns-in-Some c = reply-sealed (fields c.args.p) _ c.if-not-is_reply.ensures refl (ap mac_place c.in-Some.is)
