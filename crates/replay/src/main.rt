@@ -18,6 +18,7 @@ mod stop;
 mod wanted;
 
 use given::Given;
+use output::Program;
 use source::{Head, Source};
 use std::io;
 use stop::Stop;
@@ -97,11 +98,13 @@ fn space() -> [u8; 2097152]
 
 fn main(rt: HostRuntime) {
     let mut buf = space();
-    let came = input::read(&rt, b"replay", &mut buf);
-    if !came.all {
+    let program = Program {
+        rt: &rt,
+        name: b"replay",
+    };
+    let Some(n) = input::read(&program, &mut buf) else {
         return;
-    }
-    let n = came.len;
+    };
     if n == buf.len() {
         let _ = eprintln!(rt; "replay: cannot take an input of 2097152 bytes or more");
         return;
