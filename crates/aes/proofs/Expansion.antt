@@ -15,8 +15,8 @@ use Rattle.aes_field.specs.Field.{◌⊕◌, xtime}
 use Rattle.aes.specs.KeyExpansion.{word, temp, power, words, key_expansion}
 use Rattle.aes.specs.RoundKey.{key_byte, next_key}
 use Rattle.aes.specs.declared.round.Halves.{Halves}
-use Rattle.aes.specs.Halves.{bytes_of, schedule_of}
-use Rattle.aes.proofs.RoundKeys.{length-bytes_of, length-first_keys}
+use Rattle.aes.specs.Halves.{halves_bytes, schedule_of}
+use Rattle.aes.proofs.RoundKeys.{length-halves_bytes, length-first_keys}
 
 -- words past p are words of what follows it
 word_past : (p x : List ℕ) (r j : ℕ) → length p ≡ 16 * r → word (p ++ x) (4 * r + j) ≡ word x j
@@ -78,28 +78,28 @@ module _ (t : List ℕ) where
     pub size : length ks ≡ 11
     pub made : words t (4 * r) key ≡ schedule_of (take (r + 1) ks)
 
-  pub expanded-none : (key : List ℕ) (k : Halves) → bytes_of k ≡ key → Expanded key (replicate 11 k) 0
+  pub expanded-none : (key : List ℕ) (k : Halves) → halves_bytes k ≡ key → Expanded key (replicate 11 k) 0
   unfolding words
   expanded-none key k e = record {
     size = refl;
-    made = sym (append-nil (bytes_of k) ∙ e);
+    made = sym (append-nil (halves_bytes k) ∙ e);
   }
 
   -- a turn that puts n, the round key after the last, behind it
-  pub expanded-more : (key : List ℕ) (ks : List Halves) (d n : Halves) (r : ℕ) → r < 10 → bytes_of n ≡ next_key t (power r) (bytes_of (get_or ks r d))
+  pub expanded-more : (key : List ℕ) (ks : List Halves) (d n : Halves) (r : ℕ) → r < 10 → halves_bytes n ≡ next_key t (power r) (halves_bytes (get_or ks r d))
       → Expanded key ks r → Expanded key (set ks (r + 1) n) (r + 1)
   expanded-more key ks d n r h p e =
       let k : Halves = get_or ks r d in
       let q : List ℕ = schedule_of (take r ks) in
       let s : length ks ≡ 11 = e.size in
       let in_ks : r + 1 < length ks = omega arith in
-      let first : schedule_of (take (r + 1) ks) ≡ q ++ bytes_of k =
-      ap schedule_of (take_more ks r d (omega arith)) ∙ sym (flat_map_more bytes_of [] (take r ks) k) in
+      let first : schedule_of (take (r + 1) ks) ≡ q ++ halves_bytes k =
+      ap schedule_of (take_more ks r d (omega arith)) ∙ sym (flat_map_more halves_bytes [] (take r ks) k) in
       record {
         size = length-set ks (r + 1) n ∙ s;
-        made = grown r key q (bytes_of k) (length-first_keys ks r (omega arith)) (length-bytes_of k) (e.made ∙ first)
+        made = grown r key q (halves_bytes k) (length-first_keys ks r (omega arith)) (length-halves_bytes k) (e.made ∙ first)
             ∙ ap₂ ◌++◌ (sym first) (sym p)
-            ∙ flat_map_more bytes_of [] (take (r + 1) ks) n
+            ∙ flat_map_more halves_bytes [] (take (r + 1) ks) n
             ∙ ap schedule_of (sym (take_more_set ks (r + 1) n in_ks));
       }
 

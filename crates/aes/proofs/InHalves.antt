@@ -11,7 +11,7 @@ use Rattle.aes_field.specs.Mix.{mix_byte, inv_mix_byte}
 use Rattle.aes_field.specs.Packed.{unpacked, columns}
 use Rattle.aes_field.proofs.Packing.{unpacked_xor}
 use Rattle.aes.specs.State.{sub_bytes, shift_rows, inv_shift_rows, below, mix_columns, inv_mix_columns}
-use Rattle.aes.specs.Halves.{shifted, added}
+use Rattle.aes.specs.Halves.{rows_shifted, added}
 
 module _ (x y : ℕ) where
   abbrev l : List ℕ
@@ -20,12 +20,12 @@ module _ (x y : ℕ) where
   abbrev m : List ℕ
   m = unpacked 8 y
 
-  pub shift_halves : (t : List ℕ) → shifted t l m l m ++ shifted t m l m l ≡ shift_rows (sub_bytes t (l ++ m))
-  unfolding shifted unpacked block_of sub_bytes shift_rows
+  pub shift_halves : (t : List ℕ) → rows_shifted t l m l m ++ rows_shifted t m l m l ≡ shift_rows (sub_bytes t (l ++ m))
+  unfolding rows_shifted unpacked block_of sub_bytes shift_rows
   shift_halves t = refl
 
-  pub unshift_halves : (t : List ℕ) → shifted t l m m l ++ shifted t m l l m ≡ sub_bytes t (inv_shift_rows (l ++ m))
-  unfolding shifted unpacked block_of sub_bytes inv_shift_rows
+  pub unshift_halves : (t : List ℕ) → rows_shifted t l m m l ++ rows_shifted t m l l m ≡ sub_bytes t (inv_shift_rows (l ++ m))
+  unfolding rows_shifted unpacked block_of sub_bytes inv_shift_rows
   unshift_halves t = refl
 
   pub mix_halves : columns mix_byte l ++ columns mix_byte m ≡ mix_columns (l ++ m)

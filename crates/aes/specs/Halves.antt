@@ -9,16 +9,16 @@ use Rattle.aes_field.specs.Packed.{unpacked}
 use Rattle.aes.specs.declared.round.Halves.{Halves}
 
 -- the sixteen bytes of two halves
-abbrev pub bytes_of : Halves → List ℕ
-bytes_of s = unpacked 8 s.first ++ unpacked 8 s.second
+abbrev pub halves_bytes : Halves → List ℕ
+halves_bytes s = unpacked 8 s.first ++ unpacked 8 s.second
 
 -- the bytes of round keys, one after the other
 abbrev pub schedule_of : List Halves → List ℕ
-schedule_of keys = flat_map bytes_of keys
+schedule_of keys = flat_map halves_bytes keys
 
--- a half of SUBBYTES and of the shifted rows, with the table t: rows 0 and 2 come from l and m, rows 1 and 3 from p and q
-unfoldable pub shifted : List ℕ → List ℕ → List ℕ → List ℕ → List ℕ → List ℕ
-shifted t l m p q =
+-- a half of SUBBYTES and of the rows_shifted rows, with the table t: rows 0 and 2 come from l and m, rows 1 and 3 from p and q
+unfoldable pub rows_shifted : List ℕ → List ℕ → List ℕ → List ℕ → List ℕ → List ℕ
+rows_shifted t l m p q =
     let entry : List ℕ → ℕ → ℕ = λ half i. get_or t (get_or half i 0) 0 in
     entry l 0 ∷ entry p 5 ∷ entry m 2 ∷ entry q 7 ∷ entry l 4 ∷ entry q 1 ∷ entry m 6 ∷ entry p 3 ∷ []
 

@@ -1,10 +1,10 @@
-// The two directions of the cipher. CIPHER and INVCIPHER differ in their table, in the way that the rows are shifted, in which is
+// The two directions of the cipher. CIPHER and INVCIPHER differ in their table, in the way that the rows are rows_shifted, in which is
 // first, a round key or the mixing of the columns, and in the order of the round keys.
 ghost use Rattle.std.specs.Prelude.{◌≡◌, ◌≤◌, ◌-◌, List, ℕ};
 ghost use Rattle.aes_field.specs.Sbox.{SBOX, INVSBOX};
 ghost use Rattle.aes.specs.State.{sub_bytes, shift_rows, inv_shift_rows, mix_columns, inv_mix_columns};
 ghost use Rattle.aes.specs.Cipher.{cipher, inv_cipher};
-ghost use Rattle.aes.specs.Halves.{bytes_of, schedule_of, added, round_key, ten_rounds};
+ghost use Rattle.aes.specs.Halves.{halves_bytes, schedule_of, added, round_key, ten_rounds};
 ghost use Rattle.aes.specs.Whole.{forth_whole, back_whole};
 
 use crate::round::{self, Halves};
@@ -14,7 +14,7 @@ pub(crate) trait Direction {
     // the substitution table
     ghost table: { List ℕ };
 
-    // a state under a table, its rows shifted
+    // a state under a table, its rows rows_shifted
     ghost substituted: { List ℕ → List ℕ → List ℕ };
 
     // a state with a round key added and its columns mixed
@@ -30,14 +30,14 @@ pub(crate) trait Direction {
         ensures { result.now ≡ table };
 
     fn substitute(t: &[u8; 256], s: Halves) -> Halves
-        ensures { bytes_of result ≡ substituted t.now (bytes_of s) };
+        ensures { halves_bytes result ≡ substituted t.now (halves_bytes s) };
 
     fn mix(s: Halves, key: Halves) -> Halves
-        ensures { bytes_of result ≡ mixed (bytes_of s) (bytes_of key) };
+        ensures { halves_bytes result ≡ mixed (halves_bytes s) (halves_bytes key) };
 
     fn round_key(keys: &[Halves; 11], turn: usize) -> Halves
         requires { turn ≤ 10 }
-        ensures { bytes_of result ≡ round_key (schedule_of keys.now) (key_number turn) };
+        ensures { halves_bytes result ≡ round_key (schedule_of keys.now) (key_number turn) };
 
     ghost is_whole: { (t w b : List ℕ) → ten_rounds (substituted t) mixed (λ turn. round_key w (key_number turn)) b ≡ whole t w b };
 }

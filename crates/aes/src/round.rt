@@ -1,7 +1,7 @@
 // The state of the cipher as two numbers, and the steps of a round on it. The tables are lent.
 ghost use Rattle.std.specs.Prelude.{◌≡◌, ◌%◌, get_or};
 ghost use Rattle.aes_field.specs.Packed.{unpacked};
-ghost use Rattle.aes.specs.Halves.{shifted, bytes_of, added};
+ghost use Rattle.aes.specs.Halves.{rows_shifted, halves_bytes, added};
 
 use aes_field::field;
 use std::ops::BitXor;
@@ -14,7 +14,7 @@ pub struct Halves {
 }
 
 impl From<[u8; 16]> for Halves {
-    ghost from_gives = { λ block s. bytes_of s ≡ block };
+    ghost from_gives = { λ block s. halves_bytes s ≡ block };
 
     fn from(block: [u8; 16]) -> Self {
         Halves {
@@ -25,7 +25,7 @@ impl From<[u8; 16]> for Halves {
 }
 
 impl From<Halves> for [u8; 16] {
-    ghost from_gives = { λ s block. block ≡ bytes_of s };
+    ghost from_gives = { λ s block. block ≡ halves_bytes s };
 
     fn from(s: Halves) -> [u8; 16] {
         let mut block = [0; 16];
@@ -38,7 +38,7 @@ impl From<Halves> for [u8; 16] {
 impl BitXor for Halves {
     type Output = Halves;
 
-    ghost bitxor_gives = { λ s k r. bytes_of r ≡ added (bytes_of s) (bytes_of k) };
+    ghost bitxor_gives = { λ s k r. halves_bytes r ≡ added (halves_bytes s) (halves_bytes k) };
 
     #[tactic(auto, using(crate::proofs::InHalves::add_halves))]
     fn bitxor(self, key: Halves) -> Halves {
@@ -67,9 +67,9 @@ pub(crate) fn sub(t: &[u8; 256], x: u64) -> u8
     t[(x & 255) as usize]
 }
 
-// SubBytes, and the rows shifted, of the first half: its rows 0 and 2 come from `even`, its rows 1 and 3 from `odd`.
+// SubBytes, and the rows rows_shifted, of the first half: its rows 0 and 2 come from `even`, its rows 1 and 3 from `odd`.
 pub(crate) fn substitute(t: &[u8; 256], even: Halves, odd: Halves) -> u64
-    ensures { unpacked 8 result ≡ shifted t.now (unpacked 8 even.first) (unpacked 8 even.second) (unpacked 8 odd.first) (unpacked 8 odd.second) }
+    ensures { unpacked 8 result ≡ rows_shifted t.now (unpacked 8 even.first) (unpacked 8 even.second) (unpacked 8 odd.first) (unpacked 8 odd.second) }
 {
     // no loop over a list of places: each line is one, and its half with it
     field::pack([

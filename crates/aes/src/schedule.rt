@@ -2,7 +2,7 @@
 ghost use Rattle.std.specs.Prelude.{◌≡◌};
 ghost use Rattle.aes_field.specs.Packed.{unpacked};
 ghost use Rattle.aes.specs.KeyExpansion.{key_expansion};
-ghost use Rattle.aes.specs.Halves.{key_turn, carry, bytes_of, schedule_of};
+ghost use Rattle.aes.specs.Halves.{key_turn, carry, halves_bytes, schedule_of};
 ghost use Rattle.aes.specs.RoundKey.{next_key};
 
 use crate::round::{self, Halves};
@@ -34,7 +34,7 @@ fn half(x: u64, v: u64) -> u64
 
 // The round key after `key`, where c is the round's constant.
 fn next(t: &[u8; 256], key: Halves, c: u8) -> Halves
-    ensures { bytes_of result ≡ next_key t.now c (bytes_of key) }
+    ensures { halves_bytes result ≡ next_key t.now c (halves_bytes key) }
 {
     let first = half(key.first, turned(t, key.second, c));
     let second = half(key.second, first >> 32);

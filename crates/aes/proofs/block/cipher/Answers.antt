@@ -4,7 +4,7 @@ use mathlib.Core.List.{List}
 use Prim.Native.Nat.{ℕ, ◌-◌}
 use native.Mathlib.Nat.{le_antisymm}
 use native.Mathlib.Omega.{arith}
-use Rattle.aes.specs.Halves.{bytes_of, schedule_of, added, round_key, turns, ten_rounds}
+use Rattle.aes.specs.Halves.{halves_bytes, schedule_of, added, round_key, turns, ten_rounds}
 use Rattle.aes.proofs.Turns.{turns-none, turns-next}
 use Rattle.aes.proofs.block.cipher.Goals as goal
 
@@ -35,7 +35,7 @@ returns g c =
     let key : ℕ → List ℕ = λ turn. round_key w (d.key_number turn) in
     let l = c.loop-turn in
     let ten : l.turn ≡ 10 = le_antisymm l.invariant.1.0 c.loop-turn-test.false in
-    let begin : bytes_of c.bitxor-s.result ≡ added c.args.block (key 0) =
+    let begin : halves_bytes c.bitxor-s.result ≡ added c.args.block (key 0) =
     c.bitxor-s.ensures ∙ ap₂ added c.from.ensures c.round_key.ensures in
     c.into.ensures
     ∙ c.bitxor.ensures

@@ -3,11 +3,11 @@ use mathlib.Core.Path.{◌∙◌}
 use mathlib.Core.List.{[], ◌∷◌}
 use Rattle.aes_field.specs.Packed.{unpacked}
 use Rattle.aes_field.proofs.Packing.{entry_at}
-use Rattle.aes.specs.Halves.{shifted}
+use Rattle.aes.specs.Halves.{rows_shifted}
 use Rattle.aes.proofs.round.substitute.Goals as goal
 
 pub returns : goal.returns
-unfolding unpacked shifted
+unfolding unpacked rows_shifted
 returns c =
     let e = c.args.even in
     let o = c.args.odd in

@@ -7,7 +7,7 @@ use lib.ListN.{get_or}
 use Rattle.aes_field.specs.Field.{xtime}
 use Rattle.aes.specs.KeyExpansion.{power}
 use Rattle.aes.specs.RoundKey.{next_key}
-use Rattle.aes.specs.Halves.{bytes_of}
+use Rattle.aes.specs.Halves.{halves_bytes}
 use Rattle.aes.proofs.Expansion.{power_next, expanded-none, expanded-more, expanded-all}
 use Rattle.aes.proofs.schedule.expand.Goals as goal
 
@@ -23,7 +23,7 @@ loop-r-preserved c =
       (
         c.twice-c.ensures ∙ ap xtime l.invariant.1.0 ∙ sym (power_next l.r),
         expanded-more t c.args.key l.keys _ c.next.result l.r c.loop-r-test.true
-            (c.next.ensures ∙ ap (λ (p : ℕ). next_key t p (bytes_of (get_or l.keys l.r _))) l.invariant.1.0) l.invariant.1.1,
+            (c.next.ensures ∙ ap (λ (p : ℕ). next_key t p (halves_bytes (get_or l.keys l.r _))) l.invariant.1.0) l.invariant.1.1,
       ),
     )
 
