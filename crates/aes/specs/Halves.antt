@@ -16,7 +16,7 @@ halves_bytes s = unpacked 8 s.first ++ unpacked 8 s.second
 abbrev pub schedule_of : List Halves → List ℕ
 schedule_of keys = flat_map halves_bytes keys
 
--- a half of SUBBYTES and of the rows_shifted rows, with the table t: rows 0 and 2 come from l and m, rows 1 and 3 from p and q
+-- a half of SUBBYTES and of the shifted rows, with the table t: rows 0 and 2 come from l and m, rows 1 and 3 from p and q
 unfoldable pub rows_shifted : List ℕ → List ℕ → List ℕ → List ℕ → List ℕ → List ℕ
 rows_shifted t l m p q =
     let entry : List ℕ → ℕ → ℕ = λ half i. get_or t (get_or half i 0) 0 in

@@ -1,4 +1,4 @@
-// The two directions of the cipher. CIPHER and INVCIPHER differ in their table, in the way that the rows are rows_shifted, in which is
+// The two directions of the cipher. CIPHER and INVCIPHER differ in their table, in the way that the rows are shifted, in which is
 // first, a round key or the mixing of the columns, and in the order of the round keys.
 ghost use Rattle.std.specs.Prelude.{◌≡◌, ◌≤◌, ◌-◌, List, ℕ};
 ghost use Rattle.aes_field.specs.Sbox.{SBOX, INVSBOX};
@@ -14,7 +14,7 @@ pub(crate) trait Direction {
     // the substitution table
     ghost table: { List ℕ };
 
-    // a state under a table, its rows rows_shifted
+    // a state under a table, its rows shifted
     ghost substituted: { List ℕ → List ℕ → List ℕ };
 
     // a state with a round key added and its columns mixed

@@ -67,7 +67,7 @@ pub(crate) fn sub(t: &[u8; 256], x: u64) -> u8
     t[(x & 255) as usize]
 }
 
-// SubBytes, and the rows rows_shifted, of the first half: its rows 0 and 2 come from `even`, its rows 1 and 3 from `odd`.
+// SubBytes, and the rows shifted, of the first half: its rows 0 and 2 come from `even`, its rows 1 and 3 from `odd`.
 pub(crate) fn substitute(t: &[u8; 256], even: Halves, odd: Halves) -> u64
     ensures { unpacked 8 result ≡ rows_shifted t.now (unpacked 8 even.first) (unpacked 8 even.second) (unpacked 8 odd.first) (unpacked 8 odd.second) }
 {
