@@ -24,17 +24,6 @@ pub fn complement_icv(other_mac: [u8; 16]) -> [u8; 16]
     array::from_fn(|i| !other_mac[i])
 }
 
-// The block of s, padded as data, from `at` on.
-fn data_block(s: &[u8], at: usize) -> [u8; 16]
-    requires { (at % 16 ≡ 0) × (at ≤ length s.now) }
-    ensures { result ≡ take 16 (drop at (pad_data s.now)) }
-{
-    match s[at..].first_chunk() {
-        Some(whole) => *whole,
-        None => pad::last_data_block(s),
-    }
-}
-
 // Enciphers data, padded on the way, into the front of out.
 fn encrypt_blocks(key: [u8; 16], iv: [u8; 16], data: &[u8], out: &mut [u8]) -> usize
     requires { (length «data».now / 16 + 1) * 16 ≤ length out.old }
@@ -42,15 +31,17 @@ fn encrypt_blocks(key: [u8; 16], iv: [u8; 16], data: &[u8], out: &mut [u8]) -> u
 {
     let t = aes::encrypt_tables();
     let k = aes::encrypt_key(&t, key);
-    let n = data.len() / 16 + 1;
+    let (whole, _) = data.as_chunks::<16>();
     let mut v = iv;
-    for i in 0..n {
-        let x = block::xor(data_block(data, i * 16), v);
-        let c = aes::encrypt(&t, &k, x);
+    for (i, b) in whole.iter().enumerate() {
+        let c = aes::encrypt(&t, &k, block::xor(*b, v));
         block::put(out, i * 16, c);
         v = c;
     }
-    n
+    let n = whole.len();
+    let last = aes::encrypt(&t, &k, block::xor(pad::last_data_block(data), v));
+    block::put(out, n * 16, last);
+    n + 1
 }
 
 // Pads and enciphers data into out.
@@ -82,15 +73,13 @@ fn decrypt_blocks(key: [u8; 16], iv: [u8; 16], ct: &[u8], out: &mut [u8]) -> usi
     let t = aes::encrypt_tables();
     let k = aes::decrypt_key(&t, key);
     let u = aes::decrypt_tables();
-    let n = ct.len() / 16;
+    let (whole, _) = ct.as_chunks::<16>();
     let mut v = iv;
-    for i in 0..n {
-        let b = block::block_at(ct, i * 16);
-        let x = block::xor(aes::decrypt(&u, &k, b), v);
-        block::put(out, i * 16, x);
-        v = b;
+    for (i, b) in whole.iter().enumerate() {
+        block::put(out, i * 16, block::xor(aes::decrypt(&u, &k, *b), v));
+        v = *b;
     }
-    n
+    whole.len()
 }
 
 // Refuses by 14, with the first n bytes of out wiped.

@@ -1,5 +1,5 @@
 -- `secure_cipher::cipher::decrypt_blocks` meets its contract: before turn i, i blocks are laid, and the rest is what v leads to.
-use Prim.Native.Nat.{ℕ, ◌≤◌, ◌-◌, ◌*◌}
+use Prim.Native.Nat.{ℕ, ◌*◌}
 use mathlib.Core.Path.{◌≡◌}
 use mathlib.Core.List.{List}
 use lib.ListN.{length}
@@ -9,7 +9,5 @@ use Rattle.secure_cipher.proofs.cipher.decrypt_blocks.Given as goal
 
 abbrev pub invariant-loop-i : goal.invariant-loop-i
 invariant-loop-i l =
-    (l.i ≤ l.n) × ((length l.out ≡ length l.initial.out) × ((k : List ℕ) → l.k ≡ decrypt_key encrypt_tables k → Laid l.initial.out (l.i * 16) (dec_rest k l.ct l.n l.i l.v) (dec_rest k l.ct l.n 0 l.initial.v) l.out))
-
-abbrev pub decreases-loop-i : goal.decreases-loop-i
-decreases-loop-i l = l.n - l.i
+    let n = length l.whole in
+    (k : List ℕ) → l.k ≡ decrypt_key encrypt_tables k → Laid l.initial.out (l.i * 16) (dec_rest k l.ct n l.i l.v) (dec_rest k l.ct n 0 l.initial.v) l.out

@@ -1,5 +1,5 @@
 -- `secure_cipher::cipher::encrypt_blocks` meets its contract: before turn i, i blocks are laid, and the rest is what v leads to.
-use Prim.Native.Nat.{ℕ, ◌≤◌, ◌-◌, ◌*◌}
+use Prim.Native.Nat.{ℕ, ◌+◌, ◌*◌}
 use mathlib.Core.Path.{◌≡◌}
 use mathlib.Core.List.{List}
 use lib.ListN.{length}
@@ -10,7 +10,6 @@ use Rattle.secure_cipher.proofs.cipher.encrypt_blocks.Given as goal
 
 abbrev pub invariant-loop-i : goal.invariant-loop-i
 invariant-loop-i l =
-    (l.i ≤ l.n) × ((length l.out ≡ length l.initial.out) × ((k : List ℕ) → l.k ≡ encrypt_key l.t k → Laid l.initial.out (l.i * 16) (enc_rest k (pad_data l.data) l.n l.i l.v) (enc_rest k (pad_data l.data) l.n 0 l.initial.v) l.out))
-
-abbrev pub decreases-loop-i : goal.decreases-loop-i
-decreases-loop-i l = l.n - l.i
+    let p = pad_data l.data in
+    let n = length l.whole + 1 in
+    (k : List ℕ) → l.k ≡ encrypt_key l.t k → Laid l.initial.out (l.i * 16) (enc_rest k p n l.i l.v) (enc_rest k p n 0 l.initial.v) l.out
