@@ -2,7 +2,7 @@
 ghost use Rattle.std.specs.Prelude.{◌≡◌};
 ghost use Rattle.refusal.specs.Paper.{refusal_of};
 ghost use Rattle.secure_unseal.specs.Lookup.{shown_test};
-ghost use Rattle.crossing.specs.Answers.{c_yes};
+ghost use Rattle.crossing.specs.Answers.{c_yes, c_refusal};
 ghost use Rattle.crossing.specs.Sealing.{c_unsealed};
 ghost use Rattle.ffi.specs.Sealing.{seal_arg, unseal_arg};
 
@@ -13,6 +13,20 @@ use refusal::Refusal;
 use secure_unseal::PayloadPlace;
 
 // What comes of a session that cannot be read.
+#[cold]
+#[inline(never)]
+fn no_frame(s: CSession, e: Refusal) -> CSealed
+    ensures { result ≡ record { answer = c_refusal e; calls = 0; session = s } }
+{
+    CSealed {
+        answer: e.into(),
+        calls: 0,
+        session: s,
+    }
+}
+
+#[cold]
+#[inline(never)]
 fn no_payload(s: CSession, e: Refusal) -> CUnsealed
     ensures { result ≡ c_unsealed (refusal_of e) 0 s }
 {
@@ -34,11 +48,7 @@ pub fn malstrink_seal(s: CSession, p: CToSeal, data: &[u8], out: &mut [u8]) -> C
 {
     match take(s) {
         Ok(x) => sealed_c(seal_asked(x, p, data, out)),
-        Err(e) => CSealed {
-            answer: e.into(),
-            calls: 0,
-            session: s,
-        },
+        Err(e) => no_frame(s, e),
     }
 }
 
