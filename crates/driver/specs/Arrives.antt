@@ -15,4 +15,4 @@ abbrev pub Arrives : List ℕ → Result Arrival Trouble → Type 0
 Arrives room (Ok (Arrival.Read answer n)) = (n ≤ length room) × (wanted_of (take n room) ≡ n) × (parsed answer ≡ parse_of (take n room))
 Arrives room (Ok (Arrival.Cut answer n)) = (n ≤ length room) × (n < wanted_of (take n room)) × (parsed answer ≡ parse_of (take n room))
 Arrives room (Err (Trouble.TooLong n)) = (wanted_of (take HEADER_LEN room) ≡ n) × (length room < n)
-Arrives room (Err (Trouble.Failed e)) = Unit {0}
+Arrives room (Err (Trouble.Io e)) = Unit {0}

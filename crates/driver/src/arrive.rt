@@ -32,20 +32,21 @@ pub(crate) enum Arrival {
 #[derive(Clone, Copy)]
 pub(crate) enum Trouble {
     TooLong(usize),
-    Failed(Error),
+    Io(Error),
 }
 
 impl From<Error> for Trouble {
     ghost use Rattle.driver.specs.declared.arrive.Trouble.{Trouble};
 
-    ghost from_gives = { λ e t. t ≡ Trouble.Failed e };
+    ghost from_gives = { λ e t. t ≡ Trouble.Io e };
 
     fn from(e: Error) -> Trouble {
-        Trouble::Failed(e)
+        Trouble::Io(e)
     }
 }
 
 // The rest of a frame whose first five bytes are there and say its length, and the parse.
+#[tactic(auto, using(crate::proofs::Room::all_came))]
 fn rest_from<L: Read>(line: &mut L, room: &mut [u8], len: usize) -> Result<Arrival, Trouble>
     requires header_len_in_bounds { HEADER_LEN ≤ length room.old }
     requires room_value { wanted_of (take HEADER_LEN room.old) ≡ HEADER_LEN + (len - HEADER_LEN) }
@@ -64,6 +65,7 @@ fn rest_from<L: Read>(line: &mut L, room: &mut [u8], len: usize) -> Result<Arriv
 }
 
 // The next frame of a line, read into room.
+#[tactic(auto, using(crate::proofs::Room::few_wanted, crate::proofs::Room::no_wanted, crate::proofs::Room::wanted_refused))]
 pub(crate) fn frame_from<L: Read>(line: &mut L, room: &mut [u8]) -> Result<Arrival, Trouble>
     ensures { Arrives room.new result }
 {

@@ -28,6 +28,7 @@ fn put_read(to: &mut Writer, at: usize, answer: Result<ParsedPacket, Refusal>) -
 }
 
 // Lists the next frame, and answers how long it is, unless the listing ends with it.
+#[tactic(auto, using(crate::proofs::Room::read_within))]
 fn list_next<L: Read>(to: &mut Writer, line: &mut L, room: &mut [u8], at: usize) -> Option<usize>
     ensures { IfSome result (λ len. (5 ≤ len) × (len ≤ length room.new)) }
 {
@@ -48,13 +49,14 @@ fn list_next<L: Read>(to: &mut Writer, line: &mut L, room: &mut [u8], at: usize)
             );
             None
         }
-        Err(Trouble::Failed(e)) => to.program.told(&[b"read"], Err(e)).ok(),
+        Err(Trouble::Io(e)) => to.program.told(&[b"read"], Err(e)).ok(),
     }
 }
 
 fn list<L: Read>(to: &mut Writer, line: &mut L) {
     let mut room = [0u8; ROOM];
     let mut at = 0;
+    // No `for`: it is bytes that end it (docs/RULES.md, 15.2), and a turn takes as many as the frame has.
     while at < LONGEST {
         let Some(len) = list_next(to, line, &mut room, at) else {
             return;

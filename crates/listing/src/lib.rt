@@ -77,6 +77,7 @@ pub fn list(rt: &HostRuntime, capture: &[u8]) -> usize
     };
     let _ = put_title(&mut to);
     let mut at = 0;
+    // No `for`: where the next frame begins, the one that is read tells.
     while at < capture.len() {
         let Ok(p) = frame_at(&mut to, capture, at) else {
             return at;

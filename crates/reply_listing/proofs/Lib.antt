@@ -1,2 +1,1 @@
-pub mod ClearLaws
 pub mod TallyLaws

@@ -15,6 +15,7 @@ pub(crate) enum Reply {
 }
 
 // The reply in the frame p with this payload. One under a MAC is not looked at: what it says is not known to be what the reader sent.
+#[tactic(auto, unfolding(crate::specs::InClear::reply_in))]
 pub(crate) fn reply_in(p: ParsedPacket, payload: &[u8]) -> Reply
     ensures { reply_told result payload.now ≡ reply_in (record { fields = fields p; payload = payload.now }) }
 {

@@ -23,6 +23,7 @@ pub fn list(rt: &HostRuntime, capture: &[u8]) -> Tally
     };
     let _ = to.put(b"at addr reply\n");
     let mut t = Tally::default();
+    // No `for`: where the next frame begins, the one that is read tells.
     while t.bytes < capture.len() {
         let at = t.bytes;
         let Ok(p) = frame_at(&mut to, capture, at) else {

@@ -1,4 +1,4 @@
-// What is printed of a reply.
+// What is printed of a reply: in pieces, and not by `Display`, since `KeepsFailure` is promised of each call of a writer.
 use super::carried::Reply;
 use body_read::{Body, DeviceId, badge_number, rest, triple_at};
 use output::Writer;
@@ -16,13 +16,12 @@ fn put_device(to: &mut Writer, id: DeviceId) -> io::Result<()> {
 }
 
 fn put_triples(to: &mut Writer, body: Body, payload: &[u8]) -> io::Result<()> {
-    for i in 0..payload.len() / 3 {
-        if let Some(t) = triple_at(body, payload, i) {
-            to.print(format_args!(
-                " function {} compliance {} number {}",
-                t.function, t.compliance, t.number
-            ))?;
-        }
+    let triples = (0..payload.len() / 3).filter_map(|i| triple_at(body, payload, i));
+    for t in triples {
+        to.print(format_args!(
+            " function {} compliance {} number {}",
+            t.function, t.compliance, t.number
+        ))?;
     }
     Ok(())
 }
