@@ -1,9 +1,8 @@
 // CBC over a payload, from the complemented chain value.
-ghost use Rattle.std.specs.Prelude.{◌≡◌, ◌+◌, ◌*◌, ◌/◌, ◌%◌, ◌≤◌, length, take, drop};
+ghost use Rattle.std.specs.Prelude.{◌≡◌, ◌+◌, ◌*◌, ◌/◌, ◌%◌, ◌≤◌, length};
 ghost use Rattle.laws.specs.Bytes.{compl};
 ghost use Rattle.laws.specs.Blocks.{blocks};
 ghost use Rattle.laws.specs.Over.{write};
-ghost use Rattle.secure_cipher.specs.Pad.{pad_data};
 ghost use Rattle.secure_cipher.specs.Cbc.{hide, dec_run, encrypt_of, decrypt_of, cipher_told};
 ghost use Rattle.secure_cipher.specs.Parts.{bad_padding, Deciphered};
 

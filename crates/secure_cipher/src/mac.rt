@@ -1,6 +1,5 @@
 // The chain MAC, over a slice that is not copied.
-ghost use Rattle.std.specs.Prelude.{◌≡◌, ◌-◌, ◌*◌, ◌/◌, ◌≤◌, ◌<◌, length, take, drop};
-ghost use Rattle.laws.specs.Blocks.{cut};
+ghost use Rattle.std.specs.Prelude.{◌≡◌, ◌-◌, ◌*◌, ◌/◌, ◌<◌, length, take, drop};
 ghost use Rattle.aes.specs.Ready.{encrypt_tables};
 ghost use Rattle.secure_cipher.specs.Pad.{pad_mac};
 ghost use Rattle.secure_cipher.specs.Mac.{mac_of, mac_calls, mac_told};
@@ -66,8 +65,9 @@ pub fn cbc_mac(input: &[u8], icv: [u8; 16], s_mac1: [u8; 16], s_mac2: [u8; 16]) 
 
 // How often the cipher is called for the MAC of `len` bytes: what `cbc_mac` tells (`mac-counted`), for those who make a MAC
 // through a session's call, which does not tell it.
+#[tactic(auto, unfolding(crate::specs::Mac::mac_calls))]
 pub fn mac_calls(len: usize) -> usize
     ensures { result ≡ mac_calls len }
 {
-    if len == 0 { 0 } else { (len - 1) / 16 + 1 }
+    len.div_ceil(16)
 }
