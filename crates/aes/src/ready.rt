@@ -9,23 +9,23 @@ use crate::round::Halves;
 use crate::schedule;
 use std::marker::{Model, PhantomData};
 
-// The substitution table of a direction.
+// The substitution table of a direction, lent.
 #[derive(Drop)]
-pub struct Tables<D> {
-    pub(crate) entries: &'static [u8; 256],
+pub struct Tables<'a, D> {
+    pub(crate) entries: &'a [u8; 256],
     direction: PhantomData<D>,
 }
 
-impl<D> Model for Tables<D> {
+impl<'a, D> Model for Tables<'a, D> {
     ghost Value = { List ℕ };
 
     ghost view = { λ t. t.entries.now };
 }
 
-impl<D> From<&'static [u8; 256]> for Tables<D> {
+impl<'a, D> From<&'a [u8; 256]> for Tables<'a, D> {
     ghost from_gives = { λ entries t. t ≡ entries.now };
 
-    fn from(entries: &'static [u8; 256]) -> Self {
+    fn from(entries: &'a [u8; 256]) -> Self {
         Tables {
             entries,
             direction: PhantomData,
@@ -57,23 +57,23 @@ impl<D> From<[Halves; 11]> for Key<D> {
     }
 }
 
-pub type EncryptTables = Tables<Enciphering>;
+pub type EncryptTables<'a> = Tables<'a, Enciphering>;
 
-pub type DecryptTables = Tables<Deciphering>;
+pub type DecryptTables<'a> = Tables<'a, Deciphering>;
 
 pub type EncryptKey = Key<Enciphering>;
 
 pub type DecryptKey = Key<Deciphering>;
 
 #[tactic(auto, unfolding(crate::specs::Ready::encrypt_tables))]
-pub fn encrypt_tables() -> EncryptTables
+pub fn encrypt_tables() -> EncryptTables<'static>
     ensures { result ≡ encrypt_tables }
 {
     Enciphering::table().into()
 }
 
 #[tactic(auto, unfolding(crate::specs::Ready::decrypt_tables))]
-pub fn decrypt_tables() -> DecryptTables
+pub fn decrypt_tables() -> DecryptTables<'static>
     ensures { result ≡ decrypt_tables }
 {
     Deciphering::table().into()
