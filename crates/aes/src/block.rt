@@ -35,7 +35,7 @@ pub fn decrypt(t: &ready::DecryptTables, k: &ready::DecryptKey, block: [u8; 16])
     cipher::<Deciphering>(t.entries, &k.round_keys, block)
 }
 
-// One block under a key.
+// One block under a key. The two calls of a block stand as they are promised (docs/PROMISES.md), over the one cipher.
 #[tactic(auto, using(crate::proofs::Laws::enciphers))]
 pub fn encrypt_block(key: [u8; 16], block: [u8; 16]) -> [u8; 16]
     ensures { result ≡ E key block }

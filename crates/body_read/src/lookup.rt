@@ -1,4 +1,5 @@
-// What has no fixed length, looked up in the payload that was read. Nothing is read past its end.
+// What has no fixed length, looked up in the payload that was read. Nothing is read past its end. A body and its payload come as two
+// parameters: docs/PROMISES.md promises the calls so, and of a payload that a body was not read from as well.
 ghost use Rattle.std.specs.Prelude.{◌≡◌, length};
 ghost use Rattle.slices.specs.Stretch.{stretch_of};
 ghost use Rattle.slices.specs.Place.{part_seen};

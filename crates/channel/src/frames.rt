@@ -30,7 +30,7 @@ pub struct Transferred {
     pub to: Session,
 }
 
-// Each end names its own direction.
+// Each end names its own direction. No From: both types are of crates below.
 fn direction_of(who: End) -> Direction
     ensures { result ≡ direction_of who }
 {

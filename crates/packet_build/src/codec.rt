@@ -23,7 +23,8 @@ fn mac_size(mac: GivenMac) -> usize
     }
 }
 
-// The packet that is asked for; the data of its security block, where it has one, is lent beside it.
+// The packet that is asked for; the data of its security block, where it has one, and its own data are lent beside it, as C hands them in
+// (malstrink_build) and as the theorem FromView.view-builds gives them.
 #[derive(Clone, Copy)]
 pub struct PacketBuilder {
     pub addr: Address,

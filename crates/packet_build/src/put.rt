@@ -1,4 +1,5 @@
-// The parts of a frame, each copied to its place.
+// The parts of a frame, each copied to its place. Buffer and place go from call to call as they are: a type that held both would have
+// each promise speak of it and of them.
 ghost use Rattle.std.specs.Prelude.{◌≡◌, ◌+◌, ◌≤◌, length, take};
 ghost use Rattle.laws.specs.Over.{write};
 ghost use Rattle.packet_head.specs.Numbers.{HEADER_LEN, MAX_SCB_DATA, CODE_LEN, MAX_LEN};

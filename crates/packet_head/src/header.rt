@@ -25,7 +25,7 @@ impl Address {
         Self(byte)
     }
 
-    // For a frame from the controller.
+    // For a frame from the controller. Three calls test against a limit, and each has its own refusal and its line of the paper.
     #[tactic(auto, unfolding(crate::specs::Header::pd_of, laws::specs::Answer::refuse_if))]
     pub fn pd(addr: u8) -> Result<Self, Refusal>
         ensures { address_answer result ≡ pd_of addr }

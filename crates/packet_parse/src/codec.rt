@@ -29,8 +29,9 @@ pub struct BlockPart {
     pub len: usize,
 }
 
-// A frame that was read. Each place is counted from the frame's first byte. `len` is not the last field, because the compiler would
-// make one store of it and of a refusal's last number, and then keep the whole answer in memory.
+// A frame that was read, its places in the numbers that C is told (malstrink_parse). Each place is counted from the frame's first byte.
+// `len` is not the last field, because the compiler would make one store of it and of a refusal's last number, and then keep the whole
+// answer in memory.
 #[derive(Clone, Copy)]
 pub struct ParsedPacket {
     pub addr: Address,

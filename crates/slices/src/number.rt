@@ -11,6 +11,7 @@ pub fn word(lo: u8, hi: u8) -> u16
     u16::from_le_bytes([lo, hi])
 }
 
+// Two calls for two widths: std's call is all that differs, and each is one expression.
 // The number in the two bytes of s from `at` on; 0 where they run past its end.
 #[tactic(auto, unfolding(crate::specs::Place::part_of))]
 pub fn read_u16(s: &[u8], at: usize) -> u16

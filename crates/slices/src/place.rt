@@ -1,4 +1,5 @@
-// Places in slices. A place is a start and a length, whose sum may pass 64 bits.
+// Places in slices. A place is a start and a length, whose sum may pass 64 bits. They are two parameters, as C hands them in
+// (malstrink_payload_test) and as docs/PROMISES.md promises these calls.
 ghost use Rattle.std.specs.Prelude.{◌≡◌, ◌+◌};
 ghost use Rattle.slices.specs.Stretch.{stretch_of};
 ghost use Rattle.slices.specs.Place.{runs_past, saturated, part_seen};
