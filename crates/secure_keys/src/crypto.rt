@@ -43,7 +43,7 @@ impl SessionKeys {
         let t = aes::encrypt_tables();
         let k = aes::encrypt_key(&t, scbk);
         let key = |tag: u8| -> [u8; 16]
-            ensures { result ≡ enciphered t k (template tag rnd_a) }
+            ensures { result ≡ enciphered t.entry k (template tag rnd_a) }
         { aes::encrypt(&t, &k, key_template(tag, rnd_a)) };
         SessionKeys {
             s_enc: key(0x82),
