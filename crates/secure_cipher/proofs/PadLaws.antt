@@ -98,24 +98,47 @@ unpad-pad_data l =
     let e : length (l ++ 0x80 ∷ zeros (15 - length l % 16)) ≡ suc (length l + (15 - length l % 16)) = simp (length-append, length-replicate) (omega arith) in
     rw e (unpad-zeros l (15 - length l % 16) (15 - length l % 16) (omega arith))
 
--- ---- the steps of a loop from the end, from i to the j before it
+-- ---- a step of unpadding, from i to the j before it
 
 module _ (l : List ℕ) (i j : ℕ) (h : i ≡ suc j) where
-  pub unpad-zero : get_or l j 0 ≡ 0 → unpad_from j l ≡ unpad_from i l
+  unpad-zero : get_or l j 0 ≡ 0 → unpad_from j l ≡ unpad_from i l
   unfolding unpad_from
   unpad-zero e = rw (h, e)
 
-  pub unpad-found : get_or l j 0 ≡ 0x80 → given j ≡ unpad_from i l
+  unpad-found : get_or l j 0 ≡ 0x80 → given j ≡ unpad_from i l
   unfolding unpad_from
   unpad-found e = rw (h, e)
 
-  pub unpad-bad : (get_or l j 0 ≡ 0 → ⊥) → (get_or l j 0 ≡ 0x80 → ⊥) → refused 14 [] ≡ unpad_from i l
+  unpad-bad : (get_or l j 0 ≡ 0 → ⊥) → (get_or l j 0 ≡ 0x80 → ⊥) → refused 14 [] ≡ unpad_from i l
   unfolding unpad_from
   unpad-bad e f = rw (h, ne_eqb (get_or l j 0) 0 e, ne_eqb (get_or l j 0) 0x80 f)
 
-pub unpad_none : (l : List ℕ) (i : ℕ) → i ≡ 0 → refused 14 [] ≡ unpad_from i l
+unpad_none : (l : List ℕ) (i : ℕ) → i ≡ 0 → refused 14 [] ≡ unpad_from i l
 unfolding unpad_from
 unpad_none l i h = rw h
+
+-- ---- unpadding by the last byte that is not zero
+
+unpad_skip : (l : List ℕ) (j n : ℕ) → ((k : ℕ) → j ≤ k → k < j + n → get_or l k 0 ≡ 0) → unpad_from j l ≡ unpad_from (j + n) l
+unpad_skip l j zero z = rw add-zero
+unpad_skip l j (suc n) z =
+    unpad_skip l j n (λ k a b. z k a (omega (arith, b))) ∙ unpad-zero l (j + suc n) (j + n) (omega arith) (z (j + n) (omega arith) (omega arith))
+
+unpad_over : (l : List ℕ) (j : ℕ) → j ≤ length l → ((k : ℕ) → j ≤ k → k < length l → get_or l k 0 ≡ 0) → unpad_from j l ≡ unpad l
+unfolding unpad
+unpad_over l j h z =
+    let e : j + (length l - j) ≡ length l = omega (arith, h) in
+    unpad_skip l j (length l - j) (λ k a b. z k a (omega (arith, b, e))) ∙ ap (λ (n : ℕ). unpad_from n l) e
+
+pub unpad_blank : (l : List ℕ) → ((k : ℕ) → k < length l → get_or l k 0 ≡ 0) → refused 14 [] ≡ unpad l
+unpad_blank l z = unpad_none l 0 refl ∙ unpad_over l 0 (omega arith) (λ k a b. z k b)
+
+module _ (l : List ℕ) (j : ℕ) (h : j < length l) (z : (k : ℕ) → j + 1 ≤ k → k < length l → get_or l k 0 ≡ 0) where
+  pub unpad-last : get_or l j 0 ≡ 0x80 → given j ≡ unpad l
+  unpad-last e = unpad-found l (j + 1) j (omega arith) e ∙ unpad_over l (j + 1) (omega arith) z
+
+  pub unpad-other : (get_or l j 0 ≡ 0 → ⊥) → (get_or l j 0 ≡ 0x80 → ⊥) → refused 14 [] ≡ unpad l
+  unpad-other e f = unpad-bad l (j + 1) j (omega arith) e f ∙ unpad_over l (j + 1) (omega arith) z
 
 -- ---- unpadding refuses by 14 only
 

@@ -48,16 +48,10 @@ pub fn pad_data(data: &[u8], out: &mut [u8]) -> Result<usize, Refusal>
 pub fn unpad_data(buf: &[u8]) -> Result<usize, Refusal>
     ensures { length_answer result ≡ unpad buf.now }
 {
-    for j in (0..buf.len()).rev() {
-        let b = buf[j];
-        if b == 0x80 {
-            return Ok(j);
-        }
-        if b != 0 {
-            return Err(Refusal::BadPadding);
-        }
+    match buf.iter().rposition(|b| *b != 0) {
+        Some(last) if buf[last] == 0x80 => Ok(last),
+        _ => Err(Refusal::BadPadding),
     }
-    Err(Refusal::BadPadding)
 }
 
 // The last block of s padded as data: what is left after the whole blocks, 80, zeros.

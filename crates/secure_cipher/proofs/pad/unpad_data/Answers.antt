@@ -1,22 +1,13 @@
--- `secure_cipher::pad::unpad_data` meets its contract: a step of the loop is a step of the definition.
-use mathlib.Core.Path.{refl, ◌∙◌}
-use native.Mathlib.Omega.{arith}
-use Rattle.secure_cipher.specs.Pad.{unpad}
-use Rattle.secure_cipher.proofs.PadLaws.{unpad-zero, unpad-found, unpad-bad, unpad_none}
+-- `secure_cipher::pad::unpad_data` meets its contract: the last byte that is not zero is the one the definition finds.
+use Rattle.std.proofs.Common.{rules}
+use Rattle.secure_cipher.proofs.PadLaws.{unpad_blank, unpad-last, unpad-other}
 use Rattle.secure_cipher.proofs.pad.unpad_data.Goals as goal
 
-pub loop-j-init : goal.loop-j-init
-unfolding unpad
-loop-j-init c = refl
+pub returns-in-Some : goal.returns-in-Some
+returns-in-Some c = unpad-last c.args.buf.now c.in-Some.last (search rules) (search rules) (search rules)
 
-pub loop-j-preserved : goal.loop-j-preserved
-loop-j-preserved c = unpad-zero _ _ _ (omega arith) c.if-b-ne0.false ∙ c.loop-j.invariant
+pub returns-in_default : goal.returns-in_default
+returns-in_default c = unpad-other c.args.buf.now c.in-Some.last (search rules) (search rules) (search rules) (search rules)
 
-pub returns-then-b : goal.returns-then-b
-returns-then-b c = unpad-found _ _ _ (omega arith) c.if-b.true ∙ c.loop-j.invariant
-
-pub returns-then-b-ne0 : goal.returns-then-b-ne0
-returns-then-b-ne0 c = unpad-bad _ _ _ (omega arith) c.if-b-ne0.true c.if-b.false ∙ c.loop-j.invariant
-
-pub returns : goal.returns
-returns c = unpad_none _ c.loop-j.j (omega arith) ∙ c.loop-j.invariant
+pub returns-in_default-2 : goal.returns-in_default-2
+returns-in_default-2 c = unpad_blank c.args.buf.now (search rules)
