@@ -3,6 +3,5 @@ pub mod SealCases
 pub mod SealCalls
 pub mod Settled
 pub mod Worked
-mod Arrays
 mod DataWritten
 mod FrameWritten

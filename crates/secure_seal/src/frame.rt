@@ -6,7 +6,6 @@ ghost use Rattle.packet_head.specs.Numbers.{MAX_SQN, MAC_LEN, MAX_LEN};
 ghost use Rattle.packet_head.specs.Block.{type_of};
 ghost use Rattle.refusal.specs.Reading.{length_answer};
 ghost use Rattle.secure_session.specs.Chain.{send_from};
-ghost use Rattle.secure_session.specs.Session.{is_secure};
 ghost use Rattle.secure_seal.specs.Seal.{type_for, data_len_for, data_of, asked_of, before_data, after_data, sealed_control, frame_test, seal_of, seal_told};
 ghost use Rattle.secure_seal.specs.Parts.{Put, refused_with};
 
@@ -15,7 +14,7 @@ use packet_head::{
     SCB_HEADER_LEN, SOM, ScsType, Sqn,
 };
 use refusal::Refusal;
-use secure_session::{Processed, Session};
+use secure_session::{Processed, SecureSession, Session};
 
 // Who sends, as the caller names it.
 #[derive(Clone, Copy)]
@@ -119,12 +118,12 @@ fn put_head(w: ToSeal, total: usize, out: &mut [u8])
 }
 
 // The data over the whole of out; how often the cipher was called for it.
-fn put_data(session: Session, encrypt: bool, data: &[u8], out: &mut [u8]) -> usize
-    requires { (is_secure session.state ≡ true) × (length out.old ≡ data_len_for encrypt «data».now) }
-    ensures { (out.new ≡ (data_of encrypt session.keys.s_enc (send_from session) «data».now).bytes) × (result ≡ (data_of encrypt session.keys.s_enc (send_from session) «data».now).steps) }
+fn put_data(secure: SecureSession, encrypt: bool, data: &[u8], out: &mut [u8]) -> usize
+    requires { length out.old ≡ data_len_for encrypt «data».now }
+    ensures { (out.new ≡ (data_of encrypt secure.session.keys.s_enc (send_from secure.session) «data».now).bytes) × (result ≡ (data_of encrypt secure.session.keys.s_enc (send_from secure.session) «data».now).steps) }
 {
     if encrypt {
-        session.seal_data(data, out).calls
+        secure.seal_data(data, out).calls
     } else {
         slices::copy(out, 0, data);
         0
@@ -146,19 +145,19 @@ fn put_end(full: [u8; 16], end: usize, out: &mut [u8])
 
 // The frame of total bytes at the front of out; how often the cipher was called for all of it, and the session with its chain moved by
 // the frame's MAC.
-fn put_frame(session: Session, total: usize, w: ToSeal, data: &[u8], out: &mut [u8]) -> Sealed
-    requires { (is_secure session.state ≡ true) × (w.sqn.0 ≤ MAX_SQN) × (total ≡ before_data + after_data + data_len_for w.encrypt «data».now) × (total ≤ MAX_LEN) × (total ≤ length out.old) }
-    ensures { Put session (asked_of w «data».now) out.old out.new result }
+fn put_frame(secure: SecureSession, total: usize, w: ToSeal, data: &[u8], out: &mut [u8]) -> Sealed
+    requires { (w.sqn.0 ≤ MAX_SQN) × (total ≡ before_data + after_data + data_len_for w.encrypt «data».now) × (total ≤ MAX_LEN) × (total ≤ length out.old) }
+    ensures { Put secure.session (asked_of w «data».now) out.old out.new result }
 {
     let end = total - AFTER_DATA;
     put_head(w, total, out);
-    let hidden = put_data(session, w.encrypt, data, &mut out[BEFORE_DATA..end]);
-    let made = session.mac(&out[..end]);
-    put_end(made.answer.unwrap(), end, out);
+    let hidden = put_data(secure, w.encrypt, data, &mut out[BEFORE_DATA..end]);
+    let (full, after) = secure.mac(&out[..end]);
+    put_end(full, end, out);
     Sealed {
         answer: Ok(total),
         calls: hidden + secure_cipher::mac_calls(end),
-        session: made.session,
+        session: after.session,
     }
 }
 
@@ -177,11 +176,11 @@ fn refused(session: Session, e: Refusal) -> Sealed
 pub fn seal(session: Session, w: ToSeal, data: &[u8], out: &mut [u8]) -> Sealed
     ensures { seal_told result out.new ≡ seal_of session (asked_of w «data».now) out.old }
 {
-    if !session.is_secure() {
+    let Some(secure) = session.secure() else {
         return refused(session, Refusal::WrongState);
-    }
+    };
     match test(w.sqn, total_len(w.encrypt, data), out.len()) {
-        Ok(total) => put_frame(session, total, w, data, out),
+        Ok(total) => put_frame(secure, total, w, data, out),
         Err(e) => refused(session, e),
     }
 }

@@ -3,4 +3,5 @@ pub mod Session
 pub mod Handshake
 pub mod Apart
 pub mod Channel
+pub mod Secure
 pub mod Door

@@ -16,18 +16,15 @@ use Rattle.laws.proofs.Listed.{front_listed}
 use Rattle.laws.proofs.Lists.{part_length}
 use Rattle.packet_head.specs.Block.{has_mac, is_encrypted}
 use Rattle.packet_parse.specs.Frame.{Fields, type_in, mac_start_of, parse_of}
-use Rattle.refusal.specs.Paper.{refusal_of, number_of, values_of}
-use Rattle.std.specs.Prelude.{Ok, Err, ⊤}
+use Rattle.refusal.specs.Paper.{refusal_of}
 use Rattle.refusal.specs.declared.Refusal.{Refusal}
+use Rattle.std.specs.Prelude.{Some, None}
 use Rattle.secure_cipher.specs.Cbc.{Done, Opening, cipher_stop, decrypt_of, opened_into, wiped}
 use Rattle.secure_keys.specs.declared.crypto.SessionKeys.{SessionKeys}
 use Rattle.secure_session.specs.Chain.{recv_from, received}
-use Rattle.secure_session.specs.Session.{is_secure}
-use Rattle.secure_session.specs.Handshake.{stepped}
-use Rattle.secure_session.specs.Channel.{verify_of, open_data_of}
+use Rattle.secure_session.specs.Secure.{secure_of, checked_of}
 use Rattle.secure_session.specs.declared.session.Session.{Session}
-use Rattle.secure_session.specs.declared.session.Stepped.{Stepped}
-use Rattle.secure_session.proofs.SecureLaws.{verify-right, verify-wrong-mac}
+use Rattle.secure_session.proofs.SecureLaws.{secure_taken, not_secure, mac_right, mac_wrong}
 use Rattle.secure_unseal.specs.Unseal.{Checked, Place, UnsealRun, unseal_stop, check, open_data, unseal_plain, unseal_opened, unseal_hidden, unseal_parsed, unseal_run, unseal_of, after_unseal, unsealed_on, unseal_told}
 use Rattle.secure_unseal.specs.Parts.{stopped}
 use Rattle.secure_session.specs.declared.session.Processed.{Processed}
@@ -49,11 +46,6 @@ pub stops : {s : Session} {r : Processed PayloadPlace} {e : Refusal} {n : ℕ} {
 unfolding after_unseal
 stops {s} {w = w} h k = ap (λ (y : Processed PayloadPlace). unseal_told y w) h ∙ ap (unsealed_on s) k
 
--- with the session that a check handed back, t, which is the one it was given
-pub stops_at : {s t : Session} {r : Processed PayloadPlace} {e : Refusal} {n : ℕ} {w : List ℕ} {x : UnsealRun} → t ≡ s → r ≡ stopped t e n
-    → record { answer = refusal_of e; moved = none; work = w; steps = n } ≡ x → unseal_told r w ≡ unsealed_on s x
-stops_at {e = e} {n = n} q h k = stops (h ∙ ap (λ (y : Session). stopped y e n) q) k
-
 pub moves : (s : Session) (m : List ℕ) {t : Session} {p : Place} {w : List ℕ} {n : ℕ} {x : UnsealRun} → t ≡ received s m
     → record { answer = given p; moved = some m; work = w; steps = n } ≡ x → record { answer = given p; session = t; work = w; steps = n } ≡ unsealed_on s x
 unfolding after_unseal
@@ -67,15 +59,16 @@ four_listed f at h =
     (λ i. z i ∷ sym (get_or-drop at f 1 0) i ∷ sym (get_or-drop at f 2 0) i ∷ sym (get_or-drop at f 3 0) i ∷ [])
     ∙ front_listed (drop at f) 4 (omega (arith, length-drop at f))
 
--- what `verify` came to
-module _ (s : Session) (secure : is_secure s.state ≡ true) (f : List ℕ) (at : ℕ) (r : Stepped ⊤) (e : stepped r ≡ verify_of s (take at f) (take 4 (drop at f))) where
-  pub check-passed : r.answer ≡ Ok tt → ((check s.keys (recv_from s) f at).right ≡ true) × (r.session ≡ received s (check s.keys (recv_from s) f at).full)
+-- what a check answered
+module _ (s : Session) (f : List ℕ) (at : ℕ) where
+  pub check-passed : {t : Session} → Some t ≡ checked_of s (take at f) (take 4 (drop at f))
+      → ((check s.keys (recv_from s) f at).right ≡ true) × (t ≡ received s (check s.keys (recv_from s) f at).full)
   unfolding check
-  check-passed h = verify-right s secure (take at f) (take 4 (drop at f)) r e h
+  check-passed = mac_right s (take at f) (take 4 (drop at f))
 
-  pub check-failed : (x : Refusal) → r.answer ≡ Err x → ((check s.keys (recv_from s) f at).right ≡ false) × (number_of x ≡ 15) × (values_of x ≡ []) × (r.session ≡ s)
+  pub check-failed : None ≡ checked_of s (take at f) (take 4 (drop at f)) → (check s.keys (recv_from s) f at).right ≡ false
   unfolding check
-  check-failed x h = verify-wrong-mac s secure (take at f) (take 4 (drop at f)) r x e h
+  check-failed = mac_wrong s (take at f) (take 4 (drop at f))
 
 -- types 15 and 16: n is what the check c took
 module _ (c : Checked) (p : Fields) (w : List ℕ) {n : ℕ} (en : n ≡ c.steps) where
@@ -85,14 +78,14 @@ module _ (c : Checked) (p : Fields) (w : List ℕ) {n : ℕ} (en : n ≡ c.steps
   plain-right r =
       ap (λ (m : ℕ). record { answer = given (record { in_work = false; start = p.data_start; len = p.data_len }); moved = some c.full; work = w; steps = m }) en ∙ yes _ _ r
 
-  pub plain-wrong : (m : ℕ) (vs : List ℕ) → m ≡ 15 → vs ≡ [] → c.right ≡ false → record { answer = refused m vs; moved = none; work = w; steps = n } ≡ unseal_plain c p w
+  pub plain-wrong : c.right ≡ false → record { answer = refused 15 []; moved = none; work = w; steps = n } ≡ unseal_plain c p w
   unfolding unseal_plain
-  plain-wrong m vs em ev r = (λ i. record { answer = refused (em i) (ev i); moved = none; work = w; steps = en i }) ∙ no _ _ r
+  plain-wrong r = ap (λ (m : ℕ). record { answer = refused 15 []; moved = none; work = w; steps = m }) en ∙ no _ _ r
 
 -- ---- the data's opening
 
-pub open_made : (s : Session) (f w : List ℕ) (at n : ℕ) {d : Done} → d ≡ open_data_of s (take (at + n - at) (drop at f)) w → d ≡ open_data_of s (take n (drop at f)) w
-open_made s f w at n e = e ∙ ap (λ (m : ℕ). open_data_of s (take m (drop at f)) w) (add-sub_cancel_left at n)
+pub open_made : (k v f w : List ℕ) (at n : ℕ) {d : Done} → d ≡ decrypt_of k v (take (at + n - at) (drop at f)) w → d ≡ decrypt_of k v (take n (drop at f)) w
+open_made k v f w at n e = e ∙ ap (λ (m : ℕ). decrypt_of k v (take m (drop at f)) w) (add-sub_cancel_left at n)
 
 -- ---- types 17 and 18
 
@@ -149,9 +142,9 @@ module _ (k : SessionKeys) (v f : List ℕ) (p : Fields) (w : List ℕ) {a : Ans
     hidden-right r =
         ap (λ (j : ℕ). record { answer = given (record { in_work = true; start = 0; len = l }); moved = some c.full; work = out; steps = s + j }) en ∙ yes _ _ r ∙ hidden-checked
 
-    pub hidden-wrong : (m : ℕ) (vs z : List ℕ) → m ≡ 15 → vs ≡ [] → z ≡ wiped p.data_len w → c.right ≡ false
-        → record { answer = refused m vs; moved = none; work = z; steps = s + n } ≡ unseal_hidden c (open_data k v f p) p w
-    hidden-wrong m vs z em ev ez r = (λ i. record { answer = refused (em i) (ev i); moved = none; work = ez i; steps = s + en i }) ∙ no _ _ r ∙ hidden-checked
+    pub hidden-wrong : (z : List ℕ) → z ≡ wiped p.data_len w → c.right ≡ false
+        → record { answer = refused 15 []; moved = none; work = z; steps = s + n } ≡ unseal_hidden c (open_data k v f p) p w
+    hidden-wrong z ez r = (λ i. record { answer = refused 15 []; moved = none; work = ez i; steps = s + en i }) ∙ no _ _ r ∙ hidden-checked
 
 -- ---- a frame that was read
 
@@ -183,10 +176,10 @@ parsed-refused k v f w n vs = refl
 -- ---- the session
 
 module _ (s : Session) (f w : List ℕ) where
-  pub on-secure : {x : UnsealRun} → is_secure s.state ≡ true → x ≡ unseal_parsed s.keys (recv_from s) f (parse_of f) w → unsealed_on s x ≡ unseal_of s f w
+  pub on-secure : {t : Session} {x : UnsealRun} → Some t ≡ secure_of s → x ≡ unseal_parsed s.keys (recv_from s) f (parse_of f) w → unsealed_on s x ≡ unseal_of s f w
   unfolding unseal_of unseal_run
-  on-secure h e = ap (unsealed_on s) (e ∙ yes (unseal_parsed s.keys (recv_from s) f (parse_of f) w) (unseal_stop 16 [] w) h)
+  on-secure h e = ap (unsealed_on s) (e ∙ yes (unseal_parsed s.keys (recv_from s) f (parse_of f) w) (unseal_stop 16 [] w) (secure_taken s h).0)
 
-  pub on-other : is_secure s.state ≡ false → record { answer = refused 16 []; session = s; work = w; steps = 0 } ≡ unseal_of s f w
+  pub on-other : None ≡ secure_of s → record { answer = refused 16 []; session = s; work = w; steps = 0 } ≡ unseal_of s f w
   unfolding unseal_of unseal_run after_unseal
-  on-other h = ap (unsealed_on s) (no (unseal_parsed s.keys (recv_from s) f (parse_of f) w) (unseal_stop 16 [] w) h)
+  on-other h = ap (unsealed_on s) (no (unseal_parsed s.keys (recv_from s) f (parse_of f) w) (unseal_stop 16 [] w) (not_secure s h))

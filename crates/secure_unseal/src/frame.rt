@@ -1,13 +1,12 @@
 // A sealed frame, checked and opened.
-ghost use Rattle.std.specs.Prelude.{◌≡◌, true, List, ℕ, ◌+◌, ◌≤◌, length, take, drop};
+ghost use Rattle.std.specs.Prelude.{◌≡◌, List, ℕ, ◌+◌, ◌≤◌, length, take, drop};
 ghost use Rattle.laws.specs.Answer.{Answer.given};
+ghost use Rattle.laws.specs.Bytes.{compl};
 ghost use Rattle.packet_head.specs.Numbers.{MAC_LEN};
 ghost use Rattle.packet_parse.specs.Frame.{parse_of, fields};
-ghost use Rattle.secure_cipher.specs.Cbc.{wiped, cipher_told};
+ghost use Rattle.secure_cipher.specs.Cbc.{decrypt_of, wiped, cipher_told};
 ghost use Rattle.secure_session.specs.Chain.{recv_from};
-ghost use Rattle.secure_session.specs.Session.{is_secure};
-ghost use Rattle.secure_session.specs.Handshake.{stepped};
-ghost use Rattle.secure_session.specs.Channel.{verify_of, open_data_of};
+ghost use Rattle.secure_session.specs.Secure.{checked_of, secure_told};
 ghost use Rattle.secure_unseal.specs.Unseal.{check, open_data, unseal_plain, unseal_hidden, unseal_parsed, unsealed_on, unseal_of, unseal_told};
 ghost use Rattle.secure_unseal.specs.Parts.{stopped};
 
@@ -15,7 +14,7 @@ use packet_head::MAC_LEN;
 use packet_parse::ParsedPacket;
 use refusal::Refusal;
 use secure_cipher::Ciphered;
-use secure_session::{Processed, Session, Stepped};
+use secure_session::{Processed, SecureSession, Session};
 
 // Where an opened payload stands: in the work buffer or in the frame.
 #[derive(Clone, Copy)]
@@ -36,27 +35,27 @@ fn four_at(frame: &[u8], at: usize) -> [u8; MAC_LEN]
     [frame[at], frame[at + 1], frame[at + 2], frame[at + 3]]
 }
 
-// The MAC over the frame's bytes before `mac_at`, against the four bytes there.
-fn check(session: Session, frame: &[u8], mac_at: usize) -> Stepped<()>
+// The MAC over the frame's bytes before `mac_at`, against the four bytes there: the session after it.
+fn check(secure: SecureSession, frame: &[u8], mac_at: usize) -> Option<SecureSession>
     requires { mac_at + MAC_LEN ≤ length frame.now }
-    ensures { stepped result ≡ verify_of session (take mac_at frame.now) (take MAC_LEN (drop mac_at frame.now)) }
+    ensures { secure_told result ≡ checked_of secure.session (take mac_at frame.now) (take MAC_LEN (drop mac_at frame.now)) }
 {
     let four = four_at(frame, mac_at);
-    session.verify(&frame[..mac_at], four)
+    secure.verify(&frame[..mac_at], four)
 }
 
 // The frame's encrypted data, opened into the work buffer.
 fn open_data(
-    session: Session,
+    secure: SecureSession,
     frame: &[u8],
     at: usize,
     len: usize,
     work: &mut [u8],
 ) -> Ciphered<usize>
     requires { at + len ≤ length frame.now }
-    ensures { cipher_told result work.new ≡ open_data_of session (take len (drop at frame.now)) work.old }
+    ensures { cipher_told result work.new ≡ decrypt_of secure.session.keys.s_enc (compl (recv_from secure.session)) (take len (drop at frame.now)) work.old }
 {
-    session.open_data(&frame[at..at + len], work)
+    secure.open_data(&frame[at..at + len], work)
 }
 
 // Nothing opened, the session as it was.
@@ -79,78 +78,76 @@ fn wipe(work: &mut [u8], n: usize)
 }
 
 // Types 15 and 16: the payload is shown where it stands in the frame.
-fn unseal_plain(session: Session, frame: &[u8], p: ParsedPacket, mac_at: usize) -> Unsealed
-    requires { (is_secure session.state ≡ true) × (mac_at + MAC_LEN ≤ length frame.now) }
-    ensures { (w : List ℕ) → unseal_told result w ≡ unsealed_on session (unseal_plain (check session.keys (recv_from session) frame.now mac_at) (fields p) w) }
+fn unseal_plain(secure: SecureSession, frame: &[u8], p: ParsedPacket, mac_at: usize) -> Unsealed
+    requires { mac_at + MAC_LEN ≤ length frame.now }
+    ensures { (w : List ℕ) → unseal_told result w ≡ unsealed_on secure.session (unseal_plain (check secure.session.keys (recv_from secure.session) frame.now mac_at) (fields p) w) }
 {
     let calls = secure_cipher::mac_calls(mac_at);
-    let c = check(session, frame, mac_at);
-    match c.answer {
-        Ok(()) => Unsealed {
+    match check(secure, frame, mac_at) {
+        Some(after) => Unsealed {
             answer: Ok(PayloadPlace {
                 in_work: false,
                 start: p.data_start,
                 len: p.data_len,
             }),
             calls,
-            session: c.session,
+            session: after.session,
         },
-        Err(e) => stopped(c.session, e, calls),
+        None => stopped(secure.session, Refusal::BadCryptogram, calls),
     }
 }
 
 // Types 17 and 18: 18 and 14 come from the opening, 15 from the check after it, which alone moves the chain.
 fn unseal_hidden(
-    session: Session,
+    secure: SecureSession,
     frame: &[u8],
     p: ParsedPacket,
     mac_at: usize,
     work: &mut [u8],
 ) -> Unsealed
-    requires { (is_secure session.state ≡ true) × (mac_at + MAC_LEN ≤ length frame.now) × (p.data_start + p.data_len ≤ length frame.now) }
-    ensures { unseal_told result work.new ≡ unsealed_on session (unseal_hidden (check session.keys (recv_from session) frame.now mac_at) (open_data session.keys (recv_from session) frame.now (fields p)) (fields p) work.old) }
+    requires { (mac_at + MAC_LEN ≤ length frame.now) × (p.data_start + p.data_len ≤ length frame.now) }
+    ensures { unseal_told result work.new ≡ unsealed_on secure.session (unseal_hidden (check secure.session.keys (recv_from secure.session) frame.now mac_at) (open_data secure.session.keys (recv_from secure.session) frame.now (fields p)) (fields p) work.old) }
 {
-    let o = open_data(session, frame, p.data_start, p.data_len, work);
+    let o = open_data(secure, frame, p.data_start, p.data_len, work);
     let len = match o.answer {
         Ok(len) => len,
-        Err(e) => return stopped(session, e, o.calls),
+        Err(e) => return stopped(secure.session, e, o.calls),
     };
     let calls = o.calls + secure_cipher::mac_calls(mac_at);
-    let c = check(session, frame, mac_at);
-    match c.answer {
-        Ok(()) => Unsealed {
+    match check(secure, frame, mac_at) {
+        Some(after) => Unsealed {
             answer: Ok(PayloadPlace {
                 in_work: true,
                 start: 0,
                 len,
             }),
             calls,
-            session: c.session,
+            session: after.session,
         },
-        Err(e) => {
+        None => {
             // what was opened must not stay behind
             wipe(work, p.data_len);
-            stopped(c.session, e, calls)
+            stopped(secure.session, Refusal::BadCryptogram, calls)
         }
     }
 }
 
 // A frame that was read: the block's type says how it is sealed.
-fn unseal_parsed(session: Session, frame: &[u8], p: ParsedPacket, work: &mut [u8]) -> Unsealed
-    requires { (is_secure session.state ≡ true) × (parse_of frame.now ≡ given (fields p)) }
-    ensures { unseal_told result work.new ≡ unsealed_on session (unseal_parsed session.keys (recv_from session) frame.now (given (fields p)) work.old) }
+fn unseal_parsed(secure: SecureSession, frame: &[u8], p: ParsedPacket, work: &mut [u8]) -> Unsealed
+    requires { parse_of frame.now ≡ given (fields p) }
+    ensures { unseal_told result work.new ≡ unsealed_on secure.session (unseal_parsed secure.session.keys (recv_from secure.session) frame.now (given (fields p)) work.old) }
 {
     let Some(block) = p.block else {
-        return stopped(session, Refusal::NotSecure, 0);
+        return stopped(secure.session, Refusal::NotSecure, 0);
     };
     if !block.ty.has_mac() {
-        return stopped(session, Refusal::NotSecure, 0);
+        return stopped(secure.session, Refusal::NotSecure, 0);
     }
     let mac_at = packet_parse::mac_start(p.mac);
     if block.ty.is_encrypted() {
-        unseal_hidden(session, frame, p, mac_at, work)
+        unseal_hidden(secure, frame, p, mac_at, work)
     } else {
-        unseal_plain(session, frame, p, mac_at)
+        unseal_plain(secure, frame, p, mac_at)
     }
 }
 
@@ -158,11 +155,11 @@ fn unseal_parsed(session: Session, frame: &[u8], p: ParsedPacket, work: &mut [u8
 pub fn unseal(session: Session, frame: &[u8], work: &mut [u8]) -> Unsealed
     ensures { unseal_told result work.new ≡ unseal_of session frame.now work.old }
 {
-    if !session.is_secure() {
+    let Some(secure) = session.secure() else {
         return stopped(session, Refusal::WrongState, 0);
-    }
+    };
     match packet_parse::parse(frame) {
-        Ok(p) => unseal_parsed(session, frame, p, work),
+        Ok(p) => unseal_parsed(secure, frame, p, work),
         Err(e) => stopped(session, e, 0),
     }
 }

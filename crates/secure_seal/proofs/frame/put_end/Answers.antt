@@ -4,7 +4,7 @@ use Rattle.laws.specs.Over.{write}
 use Rattle.laws.proofs.Overwrite.{length-write, set_two}
 use Rattle.laws.proofs.Listed.{all_listed}
 use Rattle.slices.proofs.CopyLaws.{copied_part}
-use Rattle.secure_seal.proofs.Arrays.{array_block}
+use Rattle.secure_session.proofs.Owned.{array_block}
 use Rattle.secure_seal.proofs.FrameWritten.{end_written}
 use mathlib.Core.Path.{◌≡◌, refl, ap, ◌∙◌}
 use mathlib.Core.List.{List, [], ◌∷◌}

@@ -22,31 +22,31 @@ unseal_hidden-requires c =
     let mac-due : has_mac (type_in (fields c.args.p).block) ≡ true = type-tested has_mac c.in-Some.is c.has_mac.ensures c.if-not-has_mac.false in
     let a = c.args in
     let f = fields a.p in
-    (c.requires.0, omega (arith, c.mac_start-mac_at.ensures, mac-inside a.frame.now f c.requires.1 (mac-due)), data-inside a.frame.now f c.requires.1)
+    (omega (arith, c.mac_start-mac_at.ensures, mac-inside a.frame.now f c.requires mac-due), data-inside a.frame.now f c.requires)
 
 pub unseal_plain-requires : goal.unseal_plain-requires
 unseal_plain-requires c =
     let mac-due : has_mac (type_in (fields c.args.p).block) ≡ true = type-tested has_mac c.in-Some.is c.has_mac.ensures c.if-not-has_mac.false in
     let a = c.args in
     let f = fields a.p in
-    (c.requires.0, omega (arith, c.mac_start-mac_at.ensures, mac-inside a.frame.now f c.requires.1 (mac-due)))
+    omega (arith, c.mac_start-mac_at.ensures, mac-inside a.frame.now f c.requires mac-due)
 
 pub returns-in_default : goal.returns-in_default
 returns-in_default c =
     let a = c.args in
     stops c.stopped.ensures
-    (parsed-no a.session.keys (recv_from a.session) a.frame.now (fields a.p) a.work.now (ap (λ (b : Option BlockPart). has_mac (type_in (block_place b))) c.in_default.is))
+    (parsed-no a.secure.session.keys (recv_from a.secure.session) a.frame.now (fields a.p) a.work.now (ap (λ (b : Option BlockPart). has_mac (type_in (block_place b))) c.in_default.is))
 
 pub returns-then-is_encrypted : goal.returns-then-is_encrypted
 returns-then-is_encrypted c =
     let mac-due : has_mac (type_in (fields c.args.p).block) ≡ true = type-tested has_mac c.in-Some.is c.has_mac.ensures c.if-not-has_mac.false in
     let a = c.args in
     let f = fields a.p in
-    let k = a.session.keys in
-    let v = recv_from a.session in
+    let k = a.secure.session.keys in
+    let v = recv_from a.secure.session in
     let y : is_encrypted (type_in f.block) ≡ true = type-tested is_encrypted c.in-Some.is c.is_encrypted.ensures c.if-is_encrypted.true in
     c.unseal_hidden.ensures
-    ∙ ap (unsealed_on a.session)
+    ∙ ap (unsealed_on a.secure.session)
     (ap (λ (n : ℕ). unseal_hidden (check k v a.frame.now n) (open_data k v a.frame.now f) f a.work.now) c.mac_start-mac_at.ensures
     ∙ parsed-hidden k v a.frame.now f a.work.now (mac-due) y)
 
@@ -55,15 +55,15 @@ returns-else-is_encrypted c =
     let mac-due : has_mac (type_in (fields c.args.p).block) ≡ true = type-tested has_mac c.in-Some.is c.has_mac.ensures c.if-not-has_mac.false in
     let a = c.args in
     let f = fields a.p in
-    let k = a.session.keys in
-    let v = recv_from a.session in
+    let k = a.secure.session.keys in
+    let v = recv_from a.secure.session in
     let y : is_encrypted (type_in f.block) ≡ false = type-tested is_encrypted c.in-Some.is c.is_encrypted.ensures c.if-is_encrypted.false in
     c.unseal_plain.ensures a.work.now
-    ∙ ap (unsealed_on a.session)
+    ∙ ap (unsealed_on a.secure.session)
     (ap (λ (n : ℕ). unseal_plain (check k v a.frame.now n) f a.work.now) c.mac_start-mac_at.ensures ∙ parsed-plain k v a.frame.now f a.work.now (mac-due) y)
 
 pub returns-then-not-has_mac : goal.returns-then-not-has_mac
 returns-then-not-has_mac c =
     let a = c.args in
     stops c.stopped-then-not-has_mac.ensures
-    (parsed-no a.session.keys (recv_from a.session) a.frame.now (fields a.p) a.work.now (type-tested has_mac c.in-Some.is c.has_mac.ensures c.if-not-has_mac.true))
+    (parsed-no a.secure.session.keys (recv_from a.secure.session) a.frame.now (fields a.p) a.work.now (type-tested has_mac c.in-Some.is c.has_mac.ensures c.if-not-has_mac.true))

@@ -1,11 +1,11 @@
--- `secure_session::channel::begins_with` meets its contract: two numbers are equal where their bytes are.
+-- `secure_session::secure::begins_with` meets its contract: two numbers are equal where their bytes are.
 use mathlib.Core.Path.{◌≡◌}
 use native.Mathlib.Omega.{arith}
 use mir.Syntax.{w8}
 use lib.ListN.{length}
 use borrow.Author.Rules.{rules, elem_Fits}
 use Rattle.secure_session.proofs.Four.{four_begins}
-use Rattle.secure_session.proofs.channel.begins_with.Goals as goal
+use Rattle.secure_session.proofs.secure.begins_with.Goals as goal
 
 pub returns : goal.returns
 returns c =
