@@ -137,7 +137,7 @@ fn good_c(body: Body, payload: &[u8]) -> CBody
     }
 }
 
-// The payload is the one that was read.
+// The payload is the one that was read. No From, which would take what was read alone.
 pub fn body_c(r: Result<Body, Refusal>, payload: &[u8]) -> CBody
     ensures { result ≡ c_body (length payload.now) (read_answer r payload.now) }
 {

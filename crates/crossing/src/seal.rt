@@ -44,6 +44,7 @@ pub struct CUnsealed {
     pub session: CSession,
 }
 
+// A function, and no From: bool and Direction are both of other crates.
 fn direction_of(from_reader: bool) -> Direction
     ensures { result ≡ direction_arg from_reader }
 {

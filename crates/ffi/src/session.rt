@@ -1,4 +1,5 @@
-// The calls of the handshake at both ends, on a session that C hands in by value.
+// The calls of the handshake at both ends, on a session that C hands in by value. Each is a match on what was read: one function that is
+// handed the call as a closure would save the match alone, and its promise would have to tell whatever the closure may answer.
 #![tactic(auto, unfolding(crate::specs::Sessions::reading, crate::specs::Sessions::stepped_arg, crate::specs::Sessions::stepped_block_arg, crate::specs::Sessions::block_answer_arg, laws::specs::Answer::and_then))]
 
 ghost use Rattle.std.specs.Prelude.{◌≡◌};
