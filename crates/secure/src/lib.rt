@@ -13,5 +13,5 @@ pub use secure_keys::{
     initial_rmac, same, server_cryptogram,
 };
 pub use secure_seal::{Direction, Sealed, ToSeal, seal};
-pub use secure_session::{End, Processed, Session, State, Stepped};
+pub use secure_session::{End, Processed, SecureSession, Session, State, Stepped};
 pub use secure_unseal::{PayloadPlace, Unsealed, payload, payload_test, unseal};
