@@ -1,5 +1,5 @@
 -- The state, or a round key, as two halves of two columns each, as the code holds it, and the ten rounds that both directions are.
--- FIPS 197 has nothing of this; proofs/Whole shows that the ten rounds are CIPHER and INVCIPHER, and proofs/KeyHalves that two halves
+-- FIPS 197 has nothing of this; specs/Whole shows that the ten rounds are CIPHER and INVCIPHER, and proofs/KeyHalves that two halves
 -- are the next round key.
 -- Assumes nothing.
 use Rattle.std.specs.Prelude.{List, [], ◌∷◌, ◌++◌, ℕ, zero, suc, ◌+◌, ◌*◌, get_or, flat_map}

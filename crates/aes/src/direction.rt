@@ -44,7 +44,7 @@ pub(crate) trait Direction {
 
 // FIPS 197, 5.1.
 #[derive(Drop)]
-pub struct Enciphering;
+pub(crate) struct Enciphering;
 
 impl Direction for Enciphering {
     ghost table = { SBOX };
@@ -88,7 +88,7 @@ impl Direction for Enciphering {
 
 // FIPS 197, 5.3.
 #[derive(Drop)]
-pub struct Deciphering;
+pub(crate) struct Deciphering;
 
 impl Direction for Deciphering {
     ghost table = { INVSBOX };

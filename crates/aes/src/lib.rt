@@ -8,7 +8,6 @@ mod round;
 mod schedule;
 
 pub use block::{decrypt, decrypt_block, encrypt, encrypt_block};
-pub use direction::{Deciphering, Enciphering};
 pub use ready::{
     DecryptKey, DecryptTables, EncryptKey, EncryptTables, Key, Tables, decrypt_key, decrypt_tables,
     encrypt_key, encrypt_tables,

@@ -7,63 +7,56 @@ ghost use Rattle.aes.specs.Halves.{schedule_of};
 use crate::direction::{Deciphering, Direction, Enciphering};
 use crate::round::Halves;
 use crate::schedule;
-use std::marker::{Model, PhantomData};
+use std::marker::Model;
 
-// The substitution table of a direction, lent.
-#[derive(Drop)]
-pub struct Tables<'a, D> {
+// A substitution table, lent.
+#[derive(Clone, Drop)]
+pub struct Tables<'a> {
     pub(crate) entries: &'a [u8; 256],
-    direction: PhantomData<D>,
 }
 
-impl<'a, D> Model for Tables<'a, D> {
+impl<'a> Model for Tables<'a> {
     ghost Value = { List ℕ };
 
     ghost view = { λ t. t.entries.now };
 }
 
-impl<'a, D> From<&'a [u8; 256]> for Tables<'a, D> {
+impl<'a> From<&'a [u8; 256]> for Tables<'a> {
     ghost from_gives = { λ entries t. t ≡ entries.now };
 
     fn from(entries: &'a [u8; 256]) -> Self {
-        Tables {
-            entries,
-            direction: PhantomData,
-        }
+        Tables { entries }
     }
 }
 
-// A key made ready for a direction.
-#[derive(Drop)]
-pub struct Key<D> {
+// A key made ready: its round keys.
+#[derive(Clone, Drop)]
+pub struct Key {
     pub(crate) round_keys: [Halves; 11],
-    direction: PhantomData<D>,
 }
 
-impl<D> Model for Key<D> {
+impl Model for Key {
     ghost Value = { List ℕ };
 
     ghost view = { λ k. schedule_of k.round_keys };
 }
 
-impl<D> From<[Halves; 11]> for Key<D> {
+impl From<[Halves; 11]> for Key {
     ghost from_gives = { λ round_keys k. k ≡ schedule_of round_keys };
 
     fn from(round_keys: [Halves; 11]) -> Self {
-        Key {
-            round_keys,
-            direction: PhantomData,
-        }
+        Key { round_keys }
     }
 }
 
-pub type EncryptTables<'a> = Tables<'a, Enciphering>;
+// Either direction takes what was made ready for the other, as it does today: FIPS 197 has one schedule for both.
+pub type EncryptTables<'a> = Tables<'a>;
 
-pub type DecryptTables<'a> = Tables<'a, Deciphering>;
+pub type DecryptTables<'a> = Tables<'a>;
 
-pub type EncryptKey = Key<Enciphering>;
+pub type EncryptKey = Key;
 
-pub type DecryptKey = Key<Deciphering>;
+pub type DecryptKey = Key;
 
 #[tactic(auto, unfolding(crate::specs::Ready::encrypt_tables))]
 pub fn encrypt_tables() -> EncryptTables<'static>
