@@ -8,7 +8,6 @@ ghost use Rattle.secure_cipher.specs.Parts.{bad_padding, Deciphered};
 
 use super::{block, pad};
 use refusal::Refusal;
-use std::array;
 
 // What a call answers, and how often it called the cipher.
 #[derive(Clone, Copy)]
@@ -20,7 +19,7 @@ pub struct Ciphered<T> {
 pub fn complement_icv(other_mac: [u8; 16]) -> [u8; 16]
     ensures { result ≡ compl other_mac }
 {
-    array::from_fn(|i| !other_mac[i])
+    other_mac.map(|byte| !byte)
 }
 
 // Enciphers data, padded on the way, into the front of out.
