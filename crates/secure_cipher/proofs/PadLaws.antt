@@ -6,16 +6,15 @@ use mathlib.Core.List.{List, [], ◌∷◌, ◌++◌, append_assoc}
 use Prim.Native.Nat.{ℕ, zero, suc, ◌+◌, ◌-◌, ◌*◌, ◌/◌, ◌%◌, ◌≤◌, ◌<◌}
 use native.Mathlib.Nat.{add-zero, add-suc, zero-add, suc-add}
 use native.Mathlib.Omega.{arith}
-use native.Mathlib.Numerals.{add-one}
 use borrow.Author.Tests.{eq-eqb, ne_eqb, eqb-true, eqb-false, lt-ltb, le-ltb}
 use lib.Dec.{ltb, eqb, lit<}
 use lib.ListN.{length, take, drop, get_or, replicate, set, length-append, length-drop, length-replicate, get_or-replicate}
-use lib.Seq.{take-append_seam, get_or-append_seam, get_or-append-add, take-append-le, drop-append-le, take_all, take-suc, take-length, set_at, set_split, append_snoc, length-take-le}
+use lib.Seq.{take-append_seam, get_or-append_seam, get_or-append-add, take-append-le, drop-append-le, take_all, take-suc, take-length, set_at, append_snoc, length-take-le}
 use Rattle.laws.specs.Answer.{Answer.given, Answer.refused}
 use Rattle.laws.specs.Bytes.{Bytes, zeros}
 use Rattle.laws.specs.Over.{write}
 use Rattle.laws.proofs.Answers.{given-refused, refuse_true, refuse_false}
-use Rattle.laws.proofs.Overwrite.{write-write, length-write}
+use Rattle.laws.proofs.Overwrite.{set-write, write-write, length-write}
 use Rattle.laws.proofs.ByteLists.{bytes-append, bytes_cons, bytes-zeros}
 use Rattle.secure_cipher.specs.Pad.{tail80, pad_mac, pad_data, unpad_from, unpad, fitting}
 
@@ -237,10 +236,6 @@ module _ (x : List ℕ) (have need : ℕ) (e : need ≡ length x) where
   pub fitting-good : need ≤ have → given x ≡ fitting x have
   unfolding fitting
   fitting-good h = rw (← e) (sym (refuse_false (ltb have need) 18 (need ∷ have ∷ []) (given x) (le-ltb have need h)))
-
-set-write : (o : List ℕ) (n v : ℕ) → n < length o → set o n v ≡ write o n (v ∷ [])
-unfolding write
-set-write o n v h = set_split o n v h ∙ sym (append_snoc (take n o) v (drop (suc n) o)) ∙ ap (λ (k : ℕ). take n o ++ (v ∷ []) ++ drop k o) (sym (add-one n))
 
 -- the data's padding, as it is written: the bytes, 80, zeros
 pub pad_made : (x o o₁ o₂ : List ℕ) (n need : ℕ) → n ≡ length x → need ≡ length (pad_data x) → need ≤ length o → o₁ ≡ write o 0 x
