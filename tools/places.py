@@ -50,6 +50,8 @@ def functions():
                 continue
             indent = m.group(1)
             begin = next(k for k in range(at, len(lines)) if lines[k] == indent + "{" or (lines[k].endswith(" {") and not re.match(r" *(requires|ensures)", lines[k])))
+            if any(t.endswith(";") for t in lines[at:begin]):
+                continue  # a trait's function without a body
             end = begin if lines[begin].rstrip().endswith("}") else next(k for k in range(begin + 1, len(lines)) if lines[k] == indent + "}")
             top = lines[at:begin] if lines[begin] == indent + "{" else lines[at:begin + 1]
             head = [t for t in top if not re.match(r" *(requires|ensures)", t)]
@@ -85,10 +87,10 @@ def twins():
 
 
 def loops():
-    """Loops that count an index."""
+    """Loops that count an index, or are handed one beside what they go over."""
     for path in FILES:
         s = text(path)
-        for m in re.finditer(r"^ *(while [^\n]*|for \w+ in [^\n]*\.\.[^\n]*)\{$", s, re.M):
+        for m in re.finditer(r"^ *(while [^\n]*|for \w+ in [^\n]*\.\.[^\n]*|for \(\w+, [^\n]*\.enumerate\(\) )\{$", s, re.M):
             yield where(path, s, m.start()), m.group(1).strip()
 
 
