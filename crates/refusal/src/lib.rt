@@ -56,15 +56,15 @@ impl Refusal {
     {
         match self {
             Refusal::Truncated { have, need } => row(1, have, need),
-            Refusal::BadSom(b) => row(2, b as usize, 0),
-            Refusal::BadControlByte(b) => row(3, b as usize, 0),
+            Refusal::BadSom(b) => row(2, b.into(), 0),
+            Refusal::BadControlByte(b) => row(3, b.into(), 0),
             Refusal::BadLength { declared, actual } => row(4, declared, actual),
-            Refusal::BadSecurityBlockLength(b) => row(5, b as usize, 0),
-            Refusal::BadSecurityBlock(b) => row(6, b as usize, 0),
-            Refusal::BadCrc { got, want } => row(7, got as usize, want as usize),
-            Refusal::BadChecksum { got, want } => row(8, got as usize, want as usize),
-            Refusal::BadAddress(b) => row(9, b as usize, 0),
-            Refusal::BadSqn(b) => row(10, b as usize, 0),
+            Refusal::BadSecurityBlockLength(b) => row(5, b.into(), 0),
+            Refusal::BadSecurityBlock(b) => row(6, b.into(), 0),
+            Refusal::BadCrc { got, want } => row(7, got.into(), want.into()),
+            Refusal::BadChecksum { got, want } => row(8, got.into(), want.into()),
+            Refusal::BadAddress(b) => row(9, b.into(), 0),
+            Refusal::BadSqn(b) => row(10, b.into(), 0),
             Refusal::BadMac => row(11, 0, 0),
             Refusal::BufferOverflow { need, have } => row(12, need, have),
             Refusal::NotSecure => row(13, 0, 0),
@@ -73,7 +73,7 @@ impl Refusal {
             Refusal::WrongState => row(16, 0, 0),
             Refusal::BlockTooLong(n) => row(17, n, 0),
             Refusal::NoRoom { need, have } => row(18, need, have),
-            Refusal::BadBody(code) => row(19, code as usize, 0),
+            Refusal::BadBody(code) => row(19, code.into(), 0),
         }
     }
 }

@@ -5,14 +5,15 @@ ghost use Rattle.slices.specs.Number.{low_first, low_number};
 
 use super::place::part;
 
+// docs/PROMISES.md promises this call, `bytes_of_u16` and `bytes_of_u32` by their names: one call of std each.
 pub fn word(lo: u8, hi: u8) -> u16
     ensures { result ≡ low_number (lo ∷ hi ∷ []) }
 {
     u16::from_le_bytes([lo, hi])
 }
 
-// Two calls for two widths: std's call is all that differs, and each is one expression.
-// The number in the two bytes of s from `at` on; 0 where they run past its end.
+// The number in the two bytes of s from `at` on. 0 and no Option where they run past its end: docs/PROMISES.md promises it, as
+// `low_number` of `part_of`. A call for each width: std's call is all that differs, and each is one expression.
 #[tactic(auto, unfolding(crate::specs::Place::part_of))]
 pub fn read_u16(s: &[u8], at: usize) -> u16
     ensures { result ≡ low_number (part_of s.now at 2) }

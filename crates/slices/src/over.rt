@@ -27,7 +27,7 @@ pub fn zero(out: &mut [u8], at: usize, n: usize)
 {
     let end = end_of(at, n).min(out.len());
     if at < end {
-        // Not `fill`, which stores the last byte apart: thirteen instructions more a call.
+        // A `for` over the items and not `fill`, which stores the last byte apart: thirteen instructions more a call.
         for byte in out[at..end].iter_mut() {
             *byte = 0;
         }
