@@ -2,7 +2,7 @@
 ghost use Rattle.std.specs.Prelude.{◌≡◌};
 ghost use Rattle.packet_sums.specs.Checksum.{checksum_of};
 
-// The byte that makes the sum of all bytes 0 modulo 256. A loop and no `fold`, which takes two instructions more at some lengths.
+// The byte that makes the sum of all bytes 0 modulo 256. A `for` over the bytes; a `fold` says no more.
 #[tactic(auto, using(crate::proofs::SumLaws::summing), unfolding(crate::specs::Checksum::checksum_of))]
 pub fn checksum8(bytes: &[u8]) -> u8
     ensures { result ≡ checksum_of bytes.now }

@@ -12,7 +12,7 @@ const START: u16 = 0x1D0F;
 fn crc_byte(crc: u16, b: u8) -> u16
     ensures { result ≡ crc_byte crc b }
 {
-    let top = (crc >> 8) ^ (b as u16);
+    let top = (crc >> 8) ^ u16::from(b);
     let quotient = top ^ (top >> 4);
     (crc << 8) ^ (quotient << 12) ^ (quotient << 5) ^ quotient
 }
