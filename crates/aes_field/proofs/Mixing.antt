@@ -73,11 +73,11 @@ module _ (x : ℕ) where
   abbrev l : List ℕ
   l = unpacked 8 x
 
-  pub mix-two : (y z p q : ℕ) → y ≡ packed (columns (λ a b c d. b) l) → z ≡ bit_xor x y
+  pub mix_two : (y z p q : ℕ) → y ≡ packed (columns (λ a b c d. b) l) → z ≡ bit_xor x y
       → p ≡ packed (map xtime (unpacked 8 z)) → q ≡ packed (columns (λ a b c d. c) (unpacked 8 z))
       → unpacked 8 (bit_xor (bit_xor p y) q) ≡ columns mix_byte l
   unfolding unpacked columns xorl ◌⊕◌
-  mix-two y z p q ey ez ep eq =
+  mix_two y z p q ey ez ep eq =
       let ys : unpacked 8 y ≡ columns (λ a b c d. b) l = turned (λ a b c d. b) (λ a b c d ha hb hc hd. hb) y x ey in
       let zs : unpacked 8 z ≡ columns (λ a b c d. a ⊕ b) l = ap (unpacked 8) ez ∙ unpacked_xor 8 x y ∙ ap (xorl l) ys in
       let ps : unpacked 8 p ≡ columns (λ a b c d. xtime (a ⊕ b)) l = doubled p z ep ∙ ap (map xtime) zs in
@@ -85,11 +85,11 @@ module _ (x : ℕ) where
       unpacked_xor 8 (bit_xor p y) q ∙ ap₂ xorl (unpacked_xor 8 p y ∙ ap₂ xorl ps ys) qs
       ∙ columns_same (λ a b c d. xtime (a ⊕ b) ⊕ b ⊕ (c ⊕ d)) mix_byte (λ a b c d ha hb hc hd. mix_byte_lem a b c d ha hb) l (unpacked-bytes 8 x)
 
-  pub unmix-two : (y u v s r : ℕ) → y ≡ packed (columns (λ a b c d. c) l) → u ≡ packed (map xtime (unpacked 8 (bit_xor x y)))
+  pub unmix_two : (y u v s r : ℕ) → y ≡ packed (columns (λ a b c d. c) l) → u ≡ packed (map xtime (unpacked 8 (bit_xor x y)))
       → v ≡ packed (map xtime (unpacked 8 u)) → s ≡ bit_xor x v → unpacked 8 r ≡ columns mix_byte (unpacked 8 s)
       → unpacked 8 r ≡ columns inv_mix_byte l
   unfolding unpacked columns xorl ◌⊕◌
-  unmix-two y u v s r ey eu ev es er =
+  unmix_two y u v s r ey eu ev es er =
       let ys : unpacked 8 y ≡ columns (λ a b c d. c) l = turned (λ a b c d. c) (λ a b c d ha hb hc hd. hc) y x ey in
       let zs : unpacked 8 (bit_xor x y) ≡ columns (λ a b c d. a ⊕ c) l = unpacked_xor 8 x y ∙ ap (xorl l) ys in
       let us : unpacked 8 u ≡ columns (λ a b c d. xtime (a ⊕ c)) l = doubled u (bit_xor x y) eu ∙ ap (map xtime) zs in

@@ -155,9 +155,9 @@ pub byte_at : (x i : ℕ) → x / 256 ^ i % 256 ≡ drop_bytes x i % 256
 byte_at x i = ap (λ (z : ℕ). z % 256) (drop-bytes_is x i)
 
 -- the bytes of a number as std has them
-pub le-bytes_unpacked : (x : ℕ) → to_le_bytes w64 x ≡ unpacked 8 x
+pub le_bytes_unpacked : (x : ℕ) → to_le_bytes w64 x ≡ unpacked 8 x
 unfolding unpacked
-le-bytes_unpacked x =
+le_bytes_unpacked x =
     λ i. x % 256 ∷ byte_at x 1 i ∷ byte_at x 2 i ∷ byte_at x 3 i ∷ byte_at x 4 i ∷ byte_at x 5 i ∷ byte_at x 6 i ∷ byte_at x 7 i ∷ []
 
 pub entry_at : (t : List ℕ) (x i : ℕ) → get_or t (x / 256 ^ i % 256) 0 ≡ get_or t (drop_bytes x i % 256) 0
@@ -207,10 +207,10 @@ module _ (x : ℕ) (h : x < 2 ^ 64) where
       ∙ packed_same (λ a. bit_and (top a * 127) 27) (λ a. top a * 27) (λ a l. top_mask (top a) (mod-lt (a / 128) (lit< tt))) (unpacked 8 x) (unpacked-bytes 8 x)
 
   -- x times each of eight bytes
-  pub twice-each : bit_xor (bit_and x 0x7f7f7f7f7f7f7f7f * 2 % 2 ^ 64) (bit_and (bit_and x 0x8080808080808080 - bit_and x 0x8080808080808080 / 128) 0x1b1b1b1b1b1b1b1b)
+  pub twice_each : bit_xor (bit_and x 0x7f7f7f7f7f7f7f7f * 2 % 2 ^ 64) (bit_and (bit_and x 0x8080808080808080 - bit_and x 0x8080808080808080 / 128) 0x1b1b1b1b1b1b1b1b)
       ≡ packed (map xtime (unpacked 8 x))
   unfolding unpacked ◌⊕◌ xtime
-  twice-each =
+  twice_each =
       let small : bit_and x 0x7f7f7f7f7f7f7f7f * 2 % 2 ^ 64 ≡ bit_and x 0x7f7f7f7f7f7f7f7f * 2 = omega (arith, and_le_r x 0x7f7f7f7f7f7f7f7f) in
       ap₂ bit_xor (small ∙ low_bits) reduced
       ∙ packed_xor (map (λ a. a % 128 * 2) (unpacked 8 x)) (map (λ a. top a * 27) (unpacked 8 x)) refl

@@ -20,6 +20,7 @@ pub fn pack(bytes: [u8; 8]) -> u64
 }
 
 // The eight bytes of a number.
+#[tactic(auto, using(crate::proofs::Packing::le_bytes_unpacked))]
 pub fn unpack(x: u64) -> [u8; 8]
     ensures { result ≡ unpacked 8 x }
 {
@@ -27,6 +28,7 @@ pub fn unpack(x: u64) -> [u8; 8]
 }
 
 // x times each byte. 1b is added where a bit falls out of a byte: that bit spread over the seven below it, under a mask.
+#[tactic(auto, using(crate::proofs::Packing::twice_each))]
 fn twice_each(x: u64) -> u64
     ensures { result ≡ packed (map xtime (unpacked 8 x)) }
 {
@@ -35,6 +37,7 @@ fn twice_each(x: u64) -> u64
 }
 
 // Each byte replaced by the one ROWS below it in its column, where the first comes after the last.
+#[tactic(auto, using(crate::proofs::Packing::turned))]
 fn turn<const ROWS: u32>(x: u64) -> u64
     requires { (ROWS ≡ 1) ⊎ (ROWS ≡ 2) }
     ensures { result ≡ packed (columns (row ROWS) (unpacked 8 x)) }
@@ -45,6 +48,7 @@ fn turn<const ROWS: u32>(x: u64) -> u64
 }
 
 // MixColumns of two columns: 02 a + 03 b + c + d is 02 (a + b) + b + (c + d).
+#[tactic(auto, using(crate::proofs::Mixing::mix_two))]
 pub fn mix(x: u64) -> u64
     ensures { unpacked 8 result ≡ columns mix_byte (unpacked 8 x) }
 {
@@ -54,6 +58,7 @@ pub fn mix(x: u64) -> u64
 }
 
 // InvMixColumns of two columns: each byte and 04 times the sum of it and the one two below it, mixed.
+#[tactic(auto, using(crate::proofs::Mixing::unmix_two))]
 pub fn unmix(x: u64) -> u64
     ensures { unpacked 8 result ≡ columns inv_mix_byte (unpacked 8 x) }
 {

@@ -43,12 +43,14 @@ static INVERSE: [u8; 256] = [
 ];
 
 // The two tables are data, and stay two: each function lends its own.
+#[tactic(auto, using(crate::proofs::Tables::forward_table))]
 pub fn forward_table() -> &'static [u8; 256]
     ensures { result.now ≡ SBOX }
 {
     &FORWARD
 }
 
+#[tactic(auto, using(crate::proofs::Tables::backward_table))]
 pub fn inverse_table() -> &'static [u8; 256]
     ensures { result.now ≡ INVSBOX }
 {

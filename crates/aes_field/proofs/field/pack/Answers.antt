@@ -2,8 +2,8 @@
 use mathlib.Core.Path.{sym, ◌∙◌}
 use borrow.Author.Rules.{rules}
 use Rattle.std.proofs.lemmas.Nat.{le_bytes_8}
-use Rattle.aes_field.proofs.Packing.{le-bytes_unpacked}
+use Rattle.aes_field.proofs.Packing.{le_bytes_unpacked}
 use Rattle.aes_field.proofs.field.pack.Goals as goal
 
 pub returns : goal.returns
-returns c = sym (le-bytes_unpacked _) ∙ le_bytes_8 c.args.bytes _ (search rules) (search rules) c.from_le_bytes.ensures
+returns c = sym (le_bytes_unpacked _) ∙ le_bytes_8 c.args.bytes _ (search rules) (search rules) c.from_le_bytes.ensures
