@@ -1,10 +1,22 @@
 // The two paddings, into a buffer that the caller lends, and the one that is taken off again.
-ghost use Rattle.std.specs.Prelude.{◌≡◌, ◌*◌, ◌/◌, length, drop};
+ghost use Rattle.std.specs.Prelude.{◌≡◌, ◌*◌, ◌/◌, ◌≤◌, ◌<◌, length, drop, OnOk, IfErr};
 ghost use Rattle.laws.specs.Buffer.{sized, written};
+ghost use Rattle.refusal.specs.declared.Refusal.{Refusal};
 ghost use Rattle.refusal.specs.Reading.{length_answer};
 ghost use Rattle.secure_cipher.specs.Pad.{pad_mac, pad_data, unpad, fitting};
 
 use refusal::Refusal;
+
+fn room_for(out: &[u8], need: usize) -> Result<(), Refusal>
+    ensures ok { OnOk result (need ≤ length out.now) }
+    ensures err { IfErr result (λ e. (length out.now < need) × (e ≡ Refusal.NoRoom need (length out.now))) }
+{
+    let have = out.len();
+    if have < need {
+        return Err(Refusal::NoRoom { need, have });
+    }
+    Ok(())
+}
 
 // For the MAC: nothing is added at a multiple of 16.
 pub fn pad_mac(data: &[u8], out: &mut [u8]) -> Result<usize, Refusal>
@@ -15,12 +27,7 @@ pub fn pad_mac(data: &[u8], out: &mut [u8]) -> Result<usize, Refusal>
     if n % 16 != 0 {
         return pad_data(data, out);
     }
-    if out.len() < n {
-        return Err(Refusal::NoRoom {
-            need: n,
-            have: out.len(),
-        });
-    }
+    room_for(out, n)?;
     slices::copy(out, 0, data);
     Ok(n)
 }
@@ -32,12 +39,7 @@ pub fn pad_data(data: &[u8], out: &mut [u8]) -> Result<usize, Refusal>
 {
     let n = data.len();
     let need = n / 16 * 16 + 16;
-    if out.len() < need {
-        return Err(Refusal::NoRoom {
-            need,
-            have: out.len(),
-        });
-    }
+    room_for(out, need)?;
     slices::copy(out, 0, data);
     out[n] = 0x80;
     slices::zero(out, n + 1, need - (n + 1));

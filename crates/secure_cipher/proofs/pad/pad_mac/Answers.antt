@@ -1,7 +1,10 @@
 -- `secure_cipher::pad::pad_mac` meets its contract: nothing is added to whole blocks, and other bytes are padded as data.
+use Prim.Native.Nat.{◌≤◌}
 use mathlib.Core.Path.{sym, ap, ◌∙◌}
 use native.Mathlib.Omega.{arith}
+use borrow.Author.Rules.{rules}
 use lib.ListN.{length}
+use Rattle.std.proofs.lemmas.Result.{err_from_is_err_and}
 use Rattle.laws.specs.Answer.{Answer.given}
 use Rattle.laws.specs.Buffer.{sized, written}
 use Rattle.laws.specs.Over.{write}
@@ -15,13 +18,15 @@ returns-then-n-ne0 c =
     let a = c.args in
     rw (pad_mac_part a.data.now (λ h. omega arith)) c.pad_data.ensures
 
-pub returns-then-out-n : goal.returns-then-out-n
-returns-then-out-n c =
+pub returns-in_err-room_for : goal.returns-in_err-room_for
+returns-in_err-room_for c =
     let a = c.args in
     let x = a.data.now in
     let o = a.out.now in
-    let f = fitting-short (pad_mac x) (length o) (length x) (sym (ap length (pad_mac_whole x (omega arith)))) c.if-out-n.true in
-    record { result_value = ap sized f; out_after = ap (written o) f }
+    let h = c.in_err-room_for.ensures.err in
+    let q = err_from_is_err_and c.from_residual.result c.from_residual.ensures.1 in
+    let f = fitting-short (pad_mac x) (length o) (length x) (sym (ap length (pad_mac_whole x (omega arith)))) h.0 in
+    rw (q.1, q.2, h.1) (record { result_value = ap sized f; out_after = ap (written o) f })
 
 pub returns : goal.returns
 returns c =
@@ -30,5 +35,6 @@ returns c =
     let e = pad_mac_whole x (omega arith) in
     let o = a.out.now in
     let n = sym (ap length e) in
-    let f = fitting-good (pad_mac x) (length o) (length x) n c.if-out-n.false in
+    let room : length x ≤ length o = search rules in
+    let f = fitting-good (pad_mac x) (length o) (length x) n room in
     record { result_value = ap given n ∙ ap sized f; out_after = copied_all o 0 x c.copy.ensures.out_after (omega arith) ∙ ap (write o 0) (sym e) ∙ ap (written o) f }
