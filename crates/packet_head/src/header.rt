@@ -25,7 +25,7 @@ impl Address {
         Self(byte)
     }
 
-    // For a frame from the controller. Three calls test against a limit, and each has its own refusal and its line of the paper.
+    // For a frame from the controller.
     #[tactic(auto, unfolding(crate::specs::Header::pd_of, laws::specs::Answer::refuse_if))]
     pub fn pd(addr: u8) -> Result<Self, Refusal>
         ensures { address_answer result ≡ pd_of addr }
@@ -37,14 +37,12 @@ impl Address {
     }
 
     // For a frame from the reader.
-    #[tactic(auto, unfolding(crate::specs::Header::reply_of, laws::specs::Answer::refuse_if))]
+    #[tactic(auto, unfolding(crate::specs::Header::reply_of, crate::specs::Header::pd_of, laws::specs::Answer::refuse_if))]
     pub fn reply(addr: u8) -> Result<Self, Refusal>
         ensures { address_answer result ≡ reply_of addr }
     {
-        if addr > BROADCAST_ADDR {
-            return Err(Refusal::BadAddress(addr));
-        }
-        Ok(Self(addr + Self::REPLY_FLAG))
+        let pd = Self::pd(addr)?;
+        Ok(Self(pd.0 + Self::REPLY_FLAG))
     }
 
     pub fn as_byte(self) -> u8
@@ -121,6 +119,7 @@ pub struct ControlByte {
     pub block: bool,
 }
 
+// `mac_len` (packet_parse) and `if_on` (packet_build) say the same of lengths: one expression each, and a generic one is no plainer.
 fn flag(on: bool, bit: u8) -> u8
     ensures { (result ≡ cond on bit 0) × (result ≤ bit) }
 {

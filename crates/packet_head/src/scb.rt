@@ -85,7 +85,7 @@ impl Scb {
     pub fn wire_len(self) -> usize
         ensures { result ≡ self.data_len + SCB_HEADER_LEN }
     {
-        (self.data_len as usize) + SCB_HEADER_LEN
+        usize::from(self.data_len) + SCB_HEADER_LEN
     }
 
     // Reads the block at the start of buf: the part of a frame from its byte 5 on.
@@ -99,7 +99,7 @@ impl Scb {
                 need: SCB_HEADER_LEN,
             });
         }
-        let len = buf[0] as usize;
+        let len = usize::from(buf[0]);
         if len < SCB_HEADER_LEN {
             return Err(Refusal::BadSecurityBlockLength(buf[1]));
         }

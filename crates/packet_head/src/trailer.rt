@@ -22,7 +22,7 @@ impl Trailer {
     }
 }
 
-// How many bytes a trailer has.
+// How many bytes a trailer has. One expression: an if is plainest.
 pub fn trailer_len(crc: bool) -> usize
     ensures { (result ≡ trailer_len crc) × (result ≤ CRC_LEN) × (CHECKSUM_LEN ≤ result) }
 {

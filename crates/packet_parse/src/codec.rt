@@ -3,7 +3,7 @@ ghost use Rattle.std.specs.Prelude.{◌≡◌, ◌≤◌};
 ghost use Rattle.packet_head.specs.Header.{control};
 ghost use Rattle.packet_head.specs.Numbers.{MAC_LEN, MAX_LEN};
 ghost use Rattle.packet_head.specs.Trailer.{mac_len_of};
-ghost use Rattle.packet_parse.specs.Frame.{mac_place, mac_start_of, mac_at_of, block_place, head_of, head_answer, rest_of, frame_of, parse_of, parsed};
+ghost use Rattle.packet_parse.specs.Frame.{mac_place, mac_start_of, block_place, head_of, head_answer, rest_of, frame_of, parse_of, parsed};
 
 use super::trailing::check;
 use packet_head::{
@@ -29,7 +29,8 @@ pub struct BlockPart {
     pub len: usize,
 }
 
-// A frame that was read, its places in the numbers that C is told (malstrink_parse). Each place is counted from the frame's first byte.
+// A frame that was read, its places as `Fields` (specs/Frame) and the theorems over it have them: numbers, each counted from the frame's
+// first byte.
 // `len` is not the last field, because the compiler would make one store of it and of a refusal's last number, and then keep the whole
 // answer in memory.
 #[derive(Clone, Copy)]
@@ -45,19 +46,14 @@ pub struct ParsedPacket {
     pub trailer: Trailer,
 }
 
+// One expression, as `flag` of packet_head: a generic one is no plainer.
 fn mac_len(mac: bool) -> usize
     ensures { (result ≡ mac_len_of mac) × (result ≤ MAC_LEN) }
 {
     if mac { MAC_LEN } else { 0 }
 }
 
-fn mac_part(mac: bool, at: usize) -> Option<usize>
-    ensures { mac_place result ≡ mac_at_of mac at }
-{
-    if mac { Some(at) } else { None }
-}
-
-// Where a MAC starts; 0 where there is none.
+// Where a MAC starts; where there is none 0, which malstrink_parse tells C and docs/PROMISES.md promises.
 pub fn mac_start(mac: Option<usize>) -> usize
     ensures { result ≡ mac_start_of (mac_place mac) }
 {
@@ -103,7 +99,7 @@ fn parse_rest(
         data_start: at + CODE_LEN,
         data_len: n - (at + CODE_LEN + m + t),
         len: n,
-        mac: mac_part(mac, n - (m + t)),
+        mac: mac.then_some(n - (m + t)),
         trailer,
     })
 }
@@ -121,7 +117,7 @@ fn parse_frame(f: &[u8], head: FrameHead) -> Result<ParsedPacket, Refusal>
         return parse_rest(f, head, None, HEADER_LEN, false);
     }
     let b = Scb::parse(&f[HEADER_LEN..])?;
-    let len = b.data_len as usize;
+    let len = usize::from(b.data_len);
     let block = BlockPart {
         ty: b.ty,
         start: SCB_DATA_AT,
@@ -148,7 +144,7 @@ pub fn head(buf: &[u8]) -> Result<FrameHead, Refusal>
     let ctrl = ControlByte::decode(buf[4])?;
     Ok(FrameHead {
         addr: Address::from_raw(buf[1]),
-        len: word(buf[2], buf[3]) as usize,
+        len: word(buf[2], buf[3]).into(),
         ctrl,
     })
 }

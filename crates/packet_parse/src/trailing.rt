@@ -37,7 +37,7 @@ fn check_sum(f: &[u8]) -> Result<Trailer, Refusal>
     }
 }
 
-// The trailer of the whole frame f.
+// The trailer of the whole frame f. `crc` is the control byte's bit: an if is plainest.
 pub(crate) fn check(f: &[u8], crc: bool) -> Result<Trailer, Refusal>
     requires { CRC_LEN ≤ length f.now }
     ensures { trailer_answer result ≡ trailer_of f.now crc }

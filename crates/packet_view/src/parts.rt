@@ -10,7 +10,8 @@ use packet_head::{Address, ControlByte, MAC_LEN, ScsType, Trailer};
 use packet_parse::{BlockPart, ParsedPacket, parse};
 use refusal::Refusal;
 
-// A part of a frame: its place, counted from the frame's first byte, and its length, which is 0 where the part is not there.
+// A part of a frame: its place, counted from the frame's first byte, and its length, which is 0 where the part is not there: the paper
+// asks for empty parts (docs/DECISIONS.md).
 #[derive(Clone, Copy, PartialEq, Eq)]
 pub struct Span {
     pub at: usize,
@@ -44,31 +45,25 @@ pub struct Places {
 fn block_span(block: Option<BlockPart>) -> Span
     ensures { span result ≡ block_in (block_place block) }
 {
-    match block {
-        None => Span::NOWHERE,
-        Some(b) => Span {
+    block.map_or(
+        Span::NOWHERE,
+        |b| Span {
             at: b.start,
             len: b.len,
         },
-    }
+    )
 }
 
 fn mac_span(mac: Option<usize>) -> Span
     ensures { span result ≡ mac_in (mac_place mac) }
 {
-    match mac {
-        None => Span::NOWHERE,
-        Some(at) => Span { at, len: MAC_LEN },
-    }
+    mac.map_or(Span::NOWHERE, |at| Span { at, len: MAC_LEN })
 }
 
 fn block_kind(block: Option<BlockPart>) -> Option<ScsType>
     ensures { kind_of result ≡ type_in (block_place block) }
 {
-    match block {
-        None => None,
-        Some(b) => Some(b.ty),
-    }
+    block.map(|b| b.ty)
 }
 
 impl From<ParsedPacket> for Places {

@@ -71,7 +71,7 @@ impl<'a> PacketView<'a> {
     }
 }
 
-// With plain parameters, for callers that keep no view.
+// The Rust's three calls on a frame, as the three above are on a view: one expression each, and docs/PROMISES.md promises all six.
 pub fn block_data_in(frame: &[u8]) -> &[u8]
     ensures { stretch_of result ≡ block_data_seen frame.entry }
 {
