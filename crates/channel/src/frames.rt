@@ -20,6 +20,7 @@ pub struct ToTransfer {
 }
 
 // What the seal answered at the sender and the unseal at the peer, the cipher calls of each, and both sessions after it.
+// Six fields and no pair of `Processed`: docs/PROMISES.md names each by itself.
 #[derive(Clone, Copy)]
 pub struct Transferred {
     pub sealed: Result<usize, Refusal>,
@@ -30,7 +31,7 @@ pub struct Transferred {
     pub to: Session,
 }
 
-// Each end names its own direction. No From: both types are of crates below.
+// Each end names its own direction. No From: this is what a conversation has, and the definition `direction_of` is its promise.
 fn direction_of(who: End) -> Direction
     ensures { result ≡ direction_of who }
 {

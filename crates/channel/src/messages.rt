@@ -27,14 +27,11 @@ pub struct CarriedMessage {
     pub place: Span,
 }
 
-// Where the payload stands; nowhere after a refusal.
+// Where the payload stands; after a refusal nowhere, which `places_told` has as 0 and 0.
 fn payload_place(read: Result<Places, Refusal>) -> Span
     ensures { span result ≡ (places_told read).payload }
 {
-    match read {
-        Ok(places) => places.payload,
-        Err(_) => Span { at: 0, len: 0 },
-    }
+    read.map_or(Span { at: 0, len: 0 }, |places| places.payload)
 }
 
 // Builds the message into `out` in a frame of the type, with no MAC, hands over what was built and nothing else, and reads that. The

@@ -155,6 +155,8 @@ fn failed(rt: &HostRuntime, ends: Ends) -> Ends {
 }
 
 // Fresh ends, and buffers just long enough for the largest frame and for the longest encrypted data.
+// Three functions, since the buffers' lengths differ. Const parameters for these were tried: an array of such a length
+// owes, at each function, that it is below 2^63.
 fn first(rt: &HostRuntime) -> Result<Ends, Refusal> {
     put(rt, "conversation 1\n");
     let numbers = Numbers {

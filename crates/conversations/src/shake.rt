@@ -69,6 +69,7 @@ impl From<Reply> for [u8; 32] {
             client,
         } = reply;
         let mut bytes = [0; 32];
+        // Byte by byte: `copy_from_slice` of each of the three was tried, and the bound of the third was not proved.
         let joined = cuid.iter().chain(&rnd_b).chain(&client);
         for (to, from) in bytes.iter_mut().zip(joined) {
             *to = *from;

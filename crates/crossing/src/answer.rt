@@ -14,7 +14,7 @@ pub struct CAnswer {
     pub b: usize,
 }
 
-// What C is told of by one number.
+// What C is told of by one number. No `Into<usize>`: () could not get it here, and no type of a crate below.
 pub trait Told {
     ghost number: { Self → ℕ };
 

@@ -75,7 +75,7 @@ fn bare(answer: CAnswer, code: u8, start: usize, len: usize) -> CBody
     }
 }
 
-// A body whose numbers end at start, in a payload of n bytes.
+// A body whose numbers end at start, in a payload of n bytes. Codes and starts below are C's table, a row each, as `c_body` has it.
 fn begun(code: u8, start: usize, n: usize) -> CBody
     ensures { result ≡ c_bare (c_given 0) code start (n - start) }
 {
@@ -137,7 +137,7 @@ fn good_c(body: Body, payload: &[u8]) -> CBody
     }
 }
 
-// The payload is the one that was read. No From, which would take what was read alone.
+// The payload is the one that was read. No From, here and above, which would take what was read alone.
 pub fn body_c(r: Result<Body, Refusal>, payload: &[u8]) -> CBody
     ensures { result ≡ c_body (length payload.now) (read_answer r payload.now) }
 {
@@ -168,7 +168,7 @@ impl From<Option<Triple>> for CTriple {
     }
 }
 
-// Triple i, counted from 0, of what was read in the payload.
+// Triple i, counted from 0, of what was read in the payload. No From, as for `body_c`.
 pub fn triple_c(r: Result<Body, Refusal>, payload: &[u8], i: usize) -> CTriple
     ensures { result ≡ c_triple_at i (read_answer r payload.now) }
 {

@@ -29,6 +29,7 @@ pub struct CMac {
     pub b3: u8,
 }
 
+// No TryFrom: that 0 is no block holds of C's block_type alone.
 #[tactic(auto, unfolding(crate::specs::Building::block_arg, laws::specs::Answer::choose, laws::specs::Answer::and_then))]
 fn kind_of(ty: u8) -> Result<Option<ScsType>, Refusal>
     ensures { KindMeets result ty }

@@ -1,4 +1,4 @@
-// Blocks and session keys. An array crosses inside a struct.
+// Blocks and session keys. An array crosses inside a struct; there is one for each size, as C has a name for each.
 ghost use Rattle.std.specs.Prelude.{◌≡◌};
 ghost use Rattle.crossing.specs.Ciphers.{c_keys};
 ghost use Rattle.crossing.specs.Sessions.{keys_arg};

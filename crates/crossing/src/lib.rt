@@ -1,4 +1,5 @@
 // What crosses the C boundary: the records that C has, and the ways in and out of them. Each record is promised field by field.
+// A record is flat, flags and numbers side by side, since C has no sums. Zeros beside a refusal are written out, being promised.
 #![tactic(auto)]
 
 mod answer;

@@ -98,12 +98,10 @@ impl From<Result<FrameHead, Refusal>> for CHead {
 fn block_told(b: Option<BlockPart>) -> (u8, usize, usize)
     ensures { result ≡ (type_in (block_place b), block_start_in (block_place b), block_len_in (block_place b)) }
 {
-    match b {
-        Some(b) => (b.ty.as_byte(), b.start, b.len),
-        None => (0, 0, 0),
-    }
+    b.map_or((0, 0, 0), |b| (b.ty.as_byte(), b.start, b.len))
 }
 
+// C's number; trailer_is_crc stands beside it. From<Trailer> for u16 could be packet_head's alone, where nothing wants it.
 fn trailer_value(t: Trailer) -> u16
     ensures { result ≡ tail_value (tail t) }
 {

@@ -44,7 +44,7 @@ pub struct CUnsealed {
     pub session: CSession,
 }
 
-// A function, and no From: bool and Direction are both of other crates.
+// C's flag. From<bool> could be secure_seal's alone, where a bare bool would not say which end it means.
 fn direction_of(from_reader: bool) -> Direction
     ensures { result ≡ direction_arg from_reader }
 {
@@ -66,7 +66,7 @@ fn seal_refused(x: Session, e: Refusal) -> Sealed
     }
 }
 
-// The state is tested before the SQN is looked at.
+// The state is tested before the SQN is looked at. A call with a name, as in session.rt: a session goes through it.
 pub fn seal_asked(x: Session, p: CToSeal, data: &[u8], out: &mut [u8]) -> Sealed
     ensures { seal_told result out.new ≡ seal_of x (asked_arg p «data».now) out.old }
 {
@@ -87,6 +87,7 @@ pub fn seal_asked(x: Session, p: CToSeal, data: &[u8], out: &mut [u8]) -> Sealed
     secure_seal::seal(x, asked, data, out)
 }
 
+// Calls with a name and no From, as in session.rt: a session goes out through each.
 pub fn sealed_c(sealed: Sealed) -> CSealed
     ensures { result ≡ told_sealed sealed }
 {

@@ -60,7 +60,7 @@ pub struct CKeysAnswer {
 
 // ---- in and out
 
-// Functions, and no TryFrom: a byte and what it stands for are both of other crates.
+// Functions, and no TryFrom: only C has a byte for them, and to refuse any other by 16 is for this boundary alone.
 #[tactic(auto, unfolding(crate::specs::Sessions::end_arg, laws::specs::Answer::choose))]
 fn end_of(n: u8) -> Result<End, Refusal>
     ensures { end_read result ≡ end_arg n }

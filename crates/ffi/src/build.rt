@@ -1,4 +1,4 @@
-// Building a frame.
+// Building a frame. Each call is a match on what is asked, for the reason that session.rt has.
 ghost use Rattle.std.specs.Prelude.{◌≡◌, length};
 ghost use Rattle.laws.specs.Buffer.{sized, written};
 ghost use Rattle.crossing.specs.Answers.{c_answer};

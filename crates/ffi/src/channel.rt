@@ -1,4 +1,4 @@
-// What a session that is Secure does to bytes, at either end.
+// What a session that is Secure does to bytes, at either end. Each call is a match on what was read: why, session.rt says.
 #![tactic(auto, unfolding(crate::specs::Sessions::reading, crate::specs::Sessions::stepped_arg, crate::specs::Sessions::stepped_block_arg, crate::specs::Sessions::block_answer_arg, crate::specs::Sessions::keys_answer_arg, crate::specs::Sessions::done_arg, laws::specs::Answer::and_then))]
 
 ghost use Rattle.std.specs.Prelude.{◌≡◌};

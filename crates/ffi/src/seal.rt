@@ -1,4 +1,4 @@
-// Sealing a frame, unsealing one, and the test of where a payload stands.
+// Sealing a frame, unsealing one, and the test of where a payload stands. Why a call is a match on what was read, session.rt says.
 ghost use Rattle.std.specs.Prelude.{◌≡◌};
 ghost use Rattle.refusal.specs.Paper.{refusal_of};
 ghost use Rattle.secure_unseal.specs.Lookup.{shown_test};

@@ -17,7 +17,7 @@ use crossing::{
 use refusal::Refusal;
 use secure_session::Session;
 
-// What comes of a session that cannot be read.
+// What comes of a session that cannot be read, here and in channel.rt and seal.rt: one function for each of C's records.
 pub(crate) fn no_step(s: CSession, e: Refusal) -> CStepped
     ensures { result ≡ no_step s e }
 {

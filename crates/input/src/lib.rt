@@ -90,7 +90,8 @@ fn read_argument(program: &Program, buf: &mut [u8]) -> Result<usize, Error>
     }
 }
 
-// Fills buf as far as the input goes. There is no number where the input cannot be had.
+// Fills buf as far as the input goes. There is no number where the input cannot be had. A number, and not the part of buf: by it
+// callers see whether buf is full, so that there may be more (`Limit`).
 pub fn read(program: &Program, buf: &mut [u8]) -> Option<usize>
     ensures { IfSome result (λ n. IsPrefixLen n buf.new) }
 {

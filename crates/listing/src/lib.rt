@@ -15,14 +15,14 @@ use reason::Reason;
 use refusal::Refusal;
 use std::io;
 
-// The listing's first line.
+// The listing's first line. This and the calls below are no `Display`: `KeepsFailure` is promised of each call of a writer.
 pub fn put_title(to: &mut Writer) -> io::Result<()>
     ensures { KeepsFailure to.old.so_far to.new.so_far result }
 {
     to.put(b"at len addr sqn code data\n")
 }
 
-// A frame's line.
+// A frame's line. The place goes beside the writer, here and where it is handed on: it is the frame's, and changes with each.
 pub fn put_frame(to: &mut Writer, at: usize, p: ParsedPacket) -> io::Result<()>
     ensures { KeepsFailure to.old.so_far to.new.so_far result }
 {

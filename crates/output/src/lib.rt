@@ -37,12 +37,14 @@ impl Program<'_> {
 }
 
 // What prints on standard output. Why a write failed is said at once; after it nothing more is written, and each call answers it again.
+// It is made with braces: a call for it would say no more than `so_far: Ok(())`.
 #[derive(Drop)]
 pub struct Writer<'a> {
     pub program: Program<'a>,
     pub so_far: io::Result<()>,
 }
 
+// Calls, and no `Display` of what is put; and the same fact at each: `KeepsFailure` is promised of each, and an edit breaks it.
 impl Writer<'_> {
     fn write<F: FnOnce(&HostRuntime) -> io::Result<()>>(&mut self, write: F) -> io::Result<()>
         requires { F.IsAlwaysCallable write }

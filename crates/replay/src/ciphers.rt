@@ -1,4 +1,4 @@
-// One block of the cipher, keys, padding and MAC, where no buffer is lent.
+// One block of the cipher, keys, padding and MAC, where no buffer is lent. Why the numbers stand, main.rt says.
 use super::Case;
 use super::given::Given;
 use crossing::CChain;

@@ -1,4 +1,4 @@
-// The calls on frames that are lent no buffer: sums, the small kinds, reading.
+// The calls on frames that are lent no buffer: sums, the small kinds, reading. Why the numbers stand, main.rt says.
 use super::Case;
 
 pub(crate) fn agrees(op: u8, case: Case) -> bool {

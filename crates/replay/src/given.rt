@@ -78,6 +78,7 @@ impl Stored for usize {
     }
 }
 
+// One impl each for Bytes4, Bytes8 and Bytes16: C has three types.
 impl Stored for Bytes4 {
     fn taken(given: &mut Given) -> Bytes4 {
         Bytes4 {

@@ -82,6 +82,7 @@ fn seal(case: Case) -> bool {
 }
 
 // Closures and not the calls' names, which were tried: the name of another crate's function gets no proof.
+// Why the numbers stand, main.rt says.
 pub(crate) fn agrees(op: u8, case: Case) -> bool {
     match op {
         12 => build(case, |packet, block, data, mac, out| {

@@ -1,4 +1,4 @@
-// The session's calls that are lent no buffer.
+// The session's calls that are lent no buffer. Why the numbers stand, main.rt says.
 use super::Case;
 use super::given::Given;
 use crossing::{CAnswer, CSession, CStepped};

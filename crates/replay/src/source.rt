@@ -5,6 +5,7 @@ use super::Case;
 use super::given::Given;
 use super::wanted::Wanted;
 
+// A place beside the bytes, and not what is left of them: a stop says at which byte of the input it came.
 #[derive(Drop)]
 pub(crate) struct Source<'a> {
     pub bytes: &'a [u8],

@@ -33,6 +33,7 @@ fn main(rt: HostRuntime) {
         return;
     };
     say_counts(&rt, reply_listing::list(&rt, &buf[..read]));
+    // As `listing` has it for framelist: one call for both would save a line.
     if read == buf.len() {
         let limit = Limit(read);
         let _ = eprintln!(rt; "replies: {limit}");

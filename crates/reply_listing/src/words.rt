@@ -56,7 +56,7 @@ fn put_body(to: &mut Writer, body: Body, payload: &[u8]) -> io::Result<()> {
     }
 }
 
-// A code that is not listed has no name, and stands as the byte that it is.
+// A code that is not listed has no name, and stands as the byte that it is. By the code, since a refused reply has no `Body`.
 fn put_name(to: &mut Writer, code: u8) -> io::Result<()> {
     match code {
         0x40 => to.put(b" ACK"),

@@ -72,7 +72,7 @@ fn both_ways(rt: &HostRuntime, group: &str, example: Example) {
     tell(rt, group, &[example.enciphers(), example.deciphers()]);
 }
 
-// Which of the four blocks are those wanted.
+// Which of the four blocks are those wanted. By place: of the iterator that `zip` leaves no array is made without a heap.
 fn blocks(got: &[u8; 80], want: &[u8; 64]) -> [bool; 4] {
     let (got, _) = got.as_chunks::<16>();
     let (want, _) = want.as_chunks::<16>();
