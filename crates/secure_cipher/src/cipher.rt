@@ -47,12 +47,9 @@ pub fn encrypt_data(s_enc: [u8; 16], iv: [u8; 16], data: &[u8], out: &mut [u8]) 
     ensures { cipher_told result out.new ≡ encrypt_of s_enc iv «data».now out.old }
 {
     let need = data.len() / 16 * 16 + 16;
-    if out.len() < need {
+    if let Err(e) = pad::room_for(out, need) {
         return Ciphered {
-            answer: Err(Refusal::NoRoom {
-                need,
-                have: out.len(),
-            }),
+            answer: Err(e),
             calls: 0,
         };
     }
@@ -97,12 +94,9 @@ pub fn decrypt_data(s_enc: [u8; 16], iv: [u8; 16], ct: &[u8], out: &mut [u8]) ->
     ensures { cipher_told result out.new ≡ decrypt_of s_enc iv ct.now out.old }
 {
     let n = ct.len();
-    if out.len() < n {
+    if let Err(e) = pad::room_for(out, n) {
         return Ciphered {
-            answer: Err(Refusal::NoRoom {
-                need: n,
-                have: out.len(),
-            }),
+            answer: Err(e),
             calls: 0,
         };
     }

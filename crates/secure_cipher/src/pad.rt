@@ -7,7 +7,7 @@ ghost use Rattle.secure_cipher.specs.Pad.{pad_mac, pad_data, unpad, fitting};
 
 use refusal::Refusal;
 
-fn room_for(out: &[u8], need: usize) -> Result<(), Refusal>
+pub(crate) fn room_for(out: &[u8], need: usize) -> Result<(), Refusal>
     ensures ok { OnOk result (need ≤ length out.now) }
     ensures err { IfErr result (λ e. (length out.now < need) × (e ≡ Refusal.NoRoom need (length out.now))) }
 {

@@ -7,11 +7,12 @@ use Rattle.secure_cipher.proofs.CbcCalls.{encrypt-short, encrypt-good}
 use Rattle.std.proofs.lemmas.Grind.{common_steps}
 use Rattle.secure_cipher.proofs.cipher.encrypt_data.Goals as goal
 
-pub returns-then-out-need : goal.returns-then-out-need
-returns-then-out-need c =
+pub returns-in-Err : goal.returns-in-Err
+returns-in-Err c =
     let a = c.args in
     let x = a.data.now in
-    encrypt-short a.s_enc a.iv x a.out.now (length x / 16 * 16 + 16) (omega (arith, length-pad_data x)) c.if-out-need.true
+    let h = c.in-Err.ensures.err in
+    rw h.1 (encrypt-short a.s_enc a.iv x a.out.now (length x / 16 * 16 + 16) (omega (arith, length-pad_data x)) h.0)
 
 pub returns : goal.returns
 returns c = grind (arith, common_steps, length-pad_data, encrypt-short, encrypt-good)
