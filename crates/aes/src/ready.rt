@@ -58,6 +58,7 @@ pub type EncryptKey = Key;
 
 pub type DecryptKey = Key;
 
+// Four names that are promised (docs/PROMISES.md), over what both directions share.
 #[tactic(auto, unfolding(crate::specs::Ready::encrypt_tables))]
 pub fn encrypt_tables() -> EncryptTables<'static>
     ensures { result ≡ encrypt_tables }
