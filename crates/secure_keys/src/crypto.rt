@@ -1,4 +1,5 @@
-// One block of the cipher, session keys, cryptograms.
+// One block of the cipher, session keys, cryptograms. Two numbers, SCBK and cUID, or two keys stay arguments of their own:
+// docs/PROMISES.md promises these calls, and C hands them in so.
 ghost use Rattle.std.specs.Prelude.{◌≡◌, ◌++◌};
 ghost use Rattle.laws.specs.Bytes.{compl};
 ghost use Rattle.aes.specs.Cipher.{E, D};
