@@ -68,7 +68,7 @@ pub(crate) fn put_mac(out: &mut [u8], at: usize, mac: GivenMac) -> usize
     }
 }
 
-// The trailer of what stands before at; the place after it.
+// The trailer of what stands before at; the place after it. `crc` is the control byte's bit: an if is plainest.
 pub(crate) fn put_tail(out: &mut [u8], at: usize, crc: bool) -> usize
     requires { at + trailer_len crc ≤ length out.old }
     ensures value { result ≡ at + trailer_len crc }
@@ -76,8 +76,7 @@ pub(crate) fn put_tail(out: &mut [u8], at: usize, crc: bool) -> usize
 {
     if crc {
         let two = packet_sums::crc16_le(&out[..at]);
-        out[at] = two[0];
-        out[at + 1] = two[1];
+        out[at..at + CRC_LEN].copy_from_slice(&two);
         at + CRC_LEN
     } else {
         out[at] = packet_sums::checksum8(&out[..at]);

@@ -18,7 +18,7 @@ pub(crate) struct Tested {
     pub(crate) ctrl: u8,
 }
 
-// n where on holds, else 0.
+// n where on holds, else 0: one expression, as `flag` of packet_head, and a generic one is no plainer.
 fn if_on(on: bool, n: usize) -> usize
     ensures { (result ≡ cond on n 0) × (result ≤ n) }
 {
@@ -26,6 +26,7 @@ fn if_on(on: bool, n: usize) -> usize
 }
 
 // Whether there is a block and whether a MAC is due; how many bytes of MAC, of the block's data, of data, and of room in the buffer.
+// The flag and the length stand apart, as `sizes` (specs/Tested) has them.
 #[derive(Clone, Copy)]
 struct Sizes {
     has_block: bool,
@@ -58,6 +59,7 @@ fn test(ctrl: ControlByte, z: Sizes) -> Result<Tested, Refusal>
         + z.mac
         + trailer_len(ctrl.crc);
     let have = z.room;
+    // secure_seal tests its own total so: an if each, and one function of both, handed total and room, is no plainer
     if MAX_LEN < total {
         return Err(Refusal::BufferOverflow {
             need: total,
@@ -81,23 +83,19 @@ pub(crate) fn test_parts(
     requires { mac ≤ MAC_LEN }
     ensures { tested result ≡ with_ctrl (control w.ctrl) (test_of (control w.ctrl) (sizes_of (parts_given w block.now «data».now None) mac have)) }
 {
-    let sizes = match w.block {
-        None => Sizes {
-            has_block: false,
-            mac_due: false,
-            mac,
-            block_data: 0,
-            data: data.len(),
-            room: have,
-        },
-        Some(ty) => Sizes {
-            has_block: true,
-            mac_due: ty.has_mac(),
-            mac,
-            block_data: block.len(),
-            data: data.len(),
-            room: have,
-        },
+    let (has_block, mac_due, block_data) = match w.block {
+        None => (false, false, 0),
+        Some(ty) => (true, ty.has_mac(), block.len()),
     };
-    test(w.ctrl, sizes)
+    test(
+        w.ctrl,
+        Sizes {
+            has_block,
+            mac_due,
+            mac,
+            block_data,
+            data: data.len(),
+            room: have,
+        },
+    )
 }
