@@ -8,7 +8,7 @@ use super::body::Body;
 use super::lookup::rest;
 use super::reading::bytes_for;
 
-// The bits of at most eight bytes, the first one highest.
+// The bits of at most eight bytes, the first one highest; from_be_bytes wants eight.
 fn bits_as_number(bytes: &[u8]) -> u64
     requires { length bytes.now ≤ 8 }
     ensures { result ≡ binary 0 (all_bits bytes.now) }

@@ -61,6 +61,7 @@ pub fn triple_at(body: Body, payload: &[u8], i: usize) -> Option<Triple>
     }
 }
 
+// By its number: tried with as_chunks and get, whose proof did not close.
 fn triple_in(payload: &[u8], i: usize) -> Option<Triple>
     ensures { triple_answer result ≡ message_triple (message_in Body.PdCap payload.now) i }
 {

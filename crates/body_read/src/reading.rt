@@ -112,6 +112,7 @@ fn keypad(payload: &[u8]) -> Option<Body>
     Some(Body::Keypad { reader, count })
 }
 
+// The paper's table, a row each.
 #[tactic(auto, using(crate::proofs::Cases::by_code))]
 fn body_of(code: u8, payload: &[u8]) -> Option<Body>
     ensures { body_answer code result payload.now ≡ read_of code payload.now }
