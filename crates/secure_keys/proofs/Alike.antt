@@ -9,6 +9,7 @@ use lib.Bits.{bit_or, bit_xor, or_add_and, xor_add_and, and_le_l, and_le_r, xor_
 use lib.Dec.{eqb}
 use lib.ListN.{length}
 use borrow.Author.Tests.{eq-eqb, ne_eqb, eqb-true, eqb-false}
+use borrow.Author.Rules.{rules}
 use Rattle.laws.specs.Bytes.{eql}
 use Rattle.std.specs.List.{fold, zip}
 
@@ -25,16 +26,12 @@ module _ (d x y : ℕ) where
   gather false u e f =
       ne_eqb (bit_or d (bit_xor x y)) 0 (λ o. eqb-false d 0 e (omega (arith, or_add_and d (bit_xor x y), and_le_r d (bit_xor x y))))
 
-and_true : (t : Bool) → t && true ≡ t
-and_true true = refl
-and_true false = refl
-
 abbrev pub gathered : ℕ → ℕ × ℕ → ℕ
 gathered d p = bit_or d (bit_xor p.0 p.1)
 
 pub alike : (a b : List ℕ) (d : ℕ) → length a ≡ length b → eqb (fold gathered d (zip a b)) 0 ≡ eqb d 0 && eql a b
 unfolding eql
-alike [] [] d h = sym (and_true (eqb d 0))
+alike [] [] d h = search rules
 alike [] (y ∷ b) d h = absurd (omega arith)
 alike (x ∷ a) [] d h = absurd (omega arith)
 alike (x ∷ a) (y ∷ b) d h =
