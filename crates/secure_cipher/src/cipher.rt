@@ -31,6 +31,7 @@ fn encrypt_blocks(key: [u8; 16], iv: [u8; 16], data: &[u8], out: &mut [u8]) -> u
     let k = aes::encrypt_key(&t, key);
     let (whole, _) = data.as_chunks::<16>();
     let mut v = iv;
+    // by index: tried with as_chunks_mut and zip, whose proof did not close, for nothing is promised of what out holds after
     for (i, b) in whole.iter().enumerate() {
         let c = aes::encrypt(&t, &k, block::xor(*b, v));
         block::put(out, i * 16, c);
@@ -70,6 +71,7 @@ fn decrypt_blocks(key: [u8; 16], iv: [u8; 16], ct: &[u8], out: &mut [u8]) -> usi
     let u = aes::decrypt_tables();
     let (whole, _) = ct.as_chunks::<16>();
     let mut v = iv;
+    // by index: tried with as_chunks_mut and zip, whose proof did not close, for nothing is promised of what out holds after
     for (i, b) in whole.iter().enumerate() {
         block::put(out, i * 16, block::xor(aes::decrypt(&u, &k, *b), v));
         v = *b;
