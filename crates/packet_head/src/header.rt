@@ -119,7 +119,7 @@ pub struct ControlByte {
     pub block: bool,
 }
 
-// `mac_len` (packet_parse) and `if_on` (packet_build) say the same of lengths: one expression each, and a generic one is no plainer.
+// `mac_len` (packet_parse) and `if_on` (packet_build) say the same of lengths: one expression each; a generic one is no plainer.
 fn flag(on: bool, bit: u8) -> u8
     ensures { (result ≡ cond on bit 0) × (result ≤ bit) }
 {

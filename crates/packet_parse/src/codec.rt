@@ -29,8 +29,8 @@ pub struct BlockPart {
     pub len: usize,
 }
 
-// A frame that was read, its places as `Fields` (specs/Frame) and the theorems over it have them: numbers, each counted from the frame's
-// first byte.
+// A frame that was read, its places as `Fields` (specs/Frame) and the theorems over it have them: numbers, each counted from the
+// frame's first byte.
 // `len` is not the last field, because the compiler would make one store of it and of a refusal's last number, and then keep the whole
 // answer in memory.
 #[derive(Clone, Copy)]

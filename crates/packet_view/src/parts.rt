@@ -10,8 +10,8 @@ use packet_head::{Address, ControlByte, MAC_LEN, ScsType, Trailer};
 use packet_parse::{BlockPart, ParsedPacket, parse};
 use refusal::Refusal;
 
-// A part of a frame: its place, counted from the frame's first byte, and its length, which is 0 where the part is not there: the paper
-// asks for empty parts (docs/DECISIONS.md).
+// A part of a frame: its place, counted from the frame's first byte, and its length, which is 0 where the part is not there: the
+// paper asks for empty parts (docs/DECISIONS.md).
 #[derive(Clone, Copy, PartialEq, Eq)]
 pub struct Span {
     pub at: usize,
