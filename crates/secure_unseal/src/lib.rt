@@ -3,6 +3,7 @@
 
 mod frame;
 mod lookup;
+mod sealed;
 
 pub use frame::{PayloadPlace, Unsealed, unseal};
 pub use lookup::{payload, payload_test};

@@ -4,7 +4,6 @@ use mathlib.Core.Path.{◌≡◌, sym, ap, ◌∙◌}
 use mathlib.Core.List.{List}
 use Prim.Native.Nat.{ℕ, ◌+◌, ◌/◌, ◌≤◌}
 use lib.ListN.{length}
-use Rattle.laws.specs.Bytes.{Bytes}
 use Rattle.packet_parse.specs.Frame.{fields}
 use Rattle.refusal.specs.Reading.{length_answer}
 use Rattle.secure_cipher.specs.Mac.{mac_calls}
@@ -25,40 +24,39 @@ counted s f at h e = e ∙ check-counted s.keys (recv_from s) f at (omega arith)
 pub overflow_add-calls : goal.overflow_add-calls
 overflow_add-calls c =
     let a = c.args in
-    let n = a.p.data_len in
-    let h : c.open_data-o.result.calls ≤ n / 16 = found-steps a.secure.session.keys.s_enc (recv_from a.secure.session) a.frame.now a.p.data_start n a.work.now c.requires.1 c.open_data-o.ensures in
-    let b : (check a.secure.session.keys (recv_from a.secure.session) a.frame.now a.mac_at).steps ≡ (a.mac_at + 15) / 16 =
-    check-steps a.secure.session.keys (recv_from a.secure.session) a.frame.now a.mac_at (omega (arith, c.requires.0)) in
-    omega (arith, h, counted a.secure.session a.frame.now a.mac_at c.requires.0 c.mac_calls.ensures, b, c.requires.0, c.requires.1, c.well_formed)
+    let n = a.sealed.p.data_len in
+    let h : c.open_data-o.result.calls ≤ n / 16 = found-steps a.secure.session.keys.s_enc (recv_from a.secure.session) a.sealed.frame.now a.sealed.p.data_start n a.work.now a.sealed.data_inside c.open_data-o.ensures in
+    let b : (check a.secure.session.keys (recv_from a.secure.session) a.sealed.frame.now a.sealed.mac_at).steps ≡ (a.sealed.mac_at + 15) / 16 =
+    check-steps a.secure.session.keys (recv_from a.secure.session) a.sealed.frame.now a.sealed.mac_at (omega (arith, a.sealed.mac_inside)) in
+    omega (arith, h, counted a.secure.session a.sealed.frame.now a.sealed.mac_at a.sealed.mac_inside c.mac_calls.ensures, b, a.sealed.mac_inside, a.sealed.data_inside, c.well_formed)
 
 pub wipe-requires : goal.wipe-requires
 wipe-requires c =
     let a = c.args in
-    let r = found-room a.secure.session.keys.s_enc (recv_from a.secure.session) a.frame.now a.p.data_start a.p.data_len a.work.now c.requires.1 c.open_data-o.ensures _ (ap length_answer c.in-Ok.is) in
+    let r = found-room a.secure.session.keys.s_enc (recv_from a.secure.session) a.sealed.frame.now a.sealed.p.data_start a.sealed.p.data_len a.work.now a.sealed.data_inside c.open_data-o.ensures _ (ap length_answer c.in-Ok.is) in
     omega (arith, r, c.open_data-o.auto.work)
 
 pub returns-in-Some : goal.returns-in-Some
 returns-in-Some c =
     let a = c.args in
-    let y = check-passed a.secure.session a.frame.now a.mac_at (sym (ap secure_told c.in-Some.is) ∙ c.check.ensures) in
+    let y = check-passed a.secure.session a.sealed.frame.now a.sealed.mac_at (sym (ap secure_told c.in-Some.is) ∙ c.check.ensures) in
     moves a.secure.session _ y.1
-    (hidden-right a.secure.session.keys (recv_from a.secure.session) a.frame.now (fields a.p) a.work.now c.requires.1 c.open_data-o.ensures _ _ (ap length_answer c.in-Ok.is)
-    (counted a.secure.session a.frame.now a.mac_at c.requires.0 c.mac_calls.ensures) y.0)
+    (hidden-right a.secure.session.keys (recv_from a.secure.session) a.sealed.frame.now (fields a.sealed.p) a.work.now a.sealed.data_inside c.open_data-o.ensures _ _ (ap length_answer c.in-Ok.is)
+    (counted a.secure.session a.sealed.frame.now a.sealed.mac_at a.sealed.mac_inside c.mac_calls.ensures) y.0)
 
 pub returns-in-None : goal.returns-in-None
 returns-in-None c =
     let a = c.args in
-    let y = check-failed a.secure.session a.frame.now a.mac_at (sym (ap secure_told c.in-None.is) ∙ c.check.ensures) in
-    let f : Bytes a.frame.now = λ i. omega (arith, c.type_inv.frame i) in
-    let z = found-wiped a.secure.session.keys.s_enc (recv_from a.secure.session) a.frame.now a.p.data_start a.p.data_len a.work.now c.requires.1 c.open_data-o.ensures _ (ap length_answer c.in-Ok.is)
-    (secure-enc-block a.secure c.well_formed.0) (recv_block a.secure.session (secure-chain-kept a.secure c.well_formed.0)).size f in
+    let y = check-failed a.secure.session a.sealed.frame.now a.sealed.mac_at (sym (ap secure_told c.in-None.is) ∙ c.check.ensures) in
+    let z = found-wiped a.secure.session.keys.s_enc (recv_from a.secure.session) a.sealed.frame.now a.sealed.p.data_start a.sealed.p.data_len a.work.now a.sealed.data_inside c.open_data-o.ensures _ (ap length_answer c.in-Ok.is)
+    (secure-enc-block a.secure c.well_formed.0) (recv_block a.secure.session (secure-chain-kept a.secure c.well_formed.0)).size a.sealed.bytes in
     stops c.stopped-in-None.ensures
-    (hidden-wrong a.secure.session.keys (recv_from a.secure.session) a.frame.now (fields a.p) a.work.now c.requires.1 c.open_data-o.ensures _ _ (ap length_answer c.in-Ok.is)
-    (counted a.secure.session a.frame.now a.mac_at c.requires.0 c.mac_calls.ensures) _ (c.wipe.ensures ∙ z) y)
+    (hidden-wrong a.secure.session.keys (recv_from a.secure.session) a.sealed.frame.now (fields a.sealed.p) a.work.now a.sealed.data_inside c.open_data-o.ensures _ _ (ap length_answer c.in-Ok.is)
+    (counted a.secure.session a.sealed.frame.now a.sealed.mac_at a.sealed.mac_inside c.mac_calls.ensures) _ (c.wipe.ensures ∙ z) y)
 
 pub returns-in-Err : goal.returns-in-Err
 returns-in-Err c =
     let a = c.args in
     stops c.stopped.ensures
-    (hidden-no a.secure.session.keys (recv_from a.secure.session) a.frame.now (fields a.p) a.work.now c.requires.1 c.open_data-o.ensures
-    (check a.secure.session.keys (recv_from a.secure.session) a.frame.now a.mac_at) _ _ (ap length_answer c.in-Err.is))
+    (hidden-no a.secure.session.keys (recv_from a.secure.session) a.sealed.frame.now (fields a.sealed.p) a.work.now a.sealed.data_inside c.open_data-o.ensures
+    (check a.secure.session.keys (recv_from a.secure.session) a.sealed.frame.now a.sealed.mac_at) _ _ (ap length_answer c.in-Err.is))

@@ -3,9 +3,12 @@ use native.Mathlib.Omega.{arith}
 use Rattle.std.specs.Prelude.{Option, Some}
 use mathlib.Core.Bool.{Bool, true, false}
 use mathlib.Core.Path.{◌≡◌, sym, ap, ◌∙◌}
-use Prim.Native.Nat.{ℕ}
+use Prim.Native.Nat.{ℕ, ◌+◌, ◌≤◌}
+use mathlib.Core.List.{List}
+use lib.ListN.{length}
+use Rattle.laws.specs.Answer.{Answer.given}
 use Rattle.packet_head.specs.Block.{type_of, has_mac, is_encrypted}
-use Rattle.packet_parse.specs.Frame.{type_in, fields, block_place}
+use Rattle.packet_parse.specs.Frame.{Fields, type_in, mac_start_of, parse_of, fields, block_place}
 use Rattle.packet_parse.specs.declared.codec.BlockPart.{BlockPart}
 use Rattle.secure_session.specs.Chain.{recv_from}
 use Rattle.secure_unseal.specs.Unseal.{check, open_data, unseal_plain, unseal_hidden, unsealed_on}
@@ -17,19 +20,20 @@ use Rattle.secure_unseal.proofs.frame.unseal_parsed.Goals as goal
 type-tested : (test : ℕ → Bool) {p : Option BlockPart} {b : BlockPart} {x y : Bool} → p ≡ Some b → x ≡ test (type_of b.ty) → x ≡ y → test (type_in (block_place p)) ≡ y
 type-tested test e r t = ap (λ (q : Option BlockPart). test (type_in (block_place q))) e ∙ sym r ∙ t
 
-pub unseal_hidden-requires : goal.unseal_hidden-requires
-unseal_hidden-requires c =
-    let mac-due : has_mac (type_in (fields c.args.p).block) ≡ true = type-tested has_mac c.in-Some.is c.has_mac.ensures c.if-not-has_mac.false in
-    let a = c.args in
-    let f = fields a.p in
-    (omega (arith, c.mac_start-mac_at.ensures, mac-inside a.frame.now f c.requires mac-due), data-inside a.frame.now f c.requires)
+inside : (f : List ℕ) (p : Fields) {n : ℕ} → parse_of f ≡ given p → n ≡ mac_start_of p.mac → has_mac (type_in p.block) ≡ true → n + 4 ≤ length f
+inside f p h e d = omega (arith, e, mac-inside f p h d)
 
-pub unseal_plain-requires : goal.unseal_plain-requires
-unseal_plain-requires c =
-    let mac-due : has_mac (type_in (fields c.args.p).block) ≡ true = type-tested has_mac c.in-Some.is c.has_mac.ensures c.if-not-has_mac.false in
+pub invariant_of-sealed : goal.invariant_of-sealed
+invariant_of-sealed c =
     let a = c.args in
-    let f = fields a.p in
-    omega (arith, c.mac_start-mac_at.ensures, mac-inside a.frame.now f c.requires mac-due)
+    let mac-due : has_mac (type_in (fields a.p).block) ≡ true = type-tested has_mac c.in-Some.is c.has_mac.ensures c.if-not-has_mac.false in
+    record { mac_inside = inside a.frame.now (fields a.p) c.requires c.mac_start-mac_at.ensures mac-due; data_inside = data-inside a.frame.now (fields a.p) c.requires; bytes = λ i. omega (arith, c.type_inv.frame i) }
+
+pub invariant_of-sealed-else-is_encrypted : goal.invariant_of-sealed-else-is_encrypted
+invariant_of-sealed-else-is_encrypted c =
+    let a = c.args in
+    let mac-due : has_mac (type_in (fields a.p).block) ≡ true = type-tested has_mac c.in-Some.is c.has_mac.ensures c.if-not-has_mac.false in
+    record { mac_inside = inside a.frame.now (fields a.p) c.requires c.mac_start-mac_at.ensures mac-due; data_inside = data-inside a.frame.now (fields a.p) c.requires; bytes = λ i. omega (arith, c.type_inv.frame i) }
 
 pub returns-in_default : goal.returns-in_default
 returns-in_default c =

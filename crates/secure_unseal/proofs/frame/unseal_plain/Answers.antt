@@ -12,15 +12,15 @@ use Rattle.secure_unseal.proofs.frame.unseal_plain.Goals as goal
 pub returns-in-Some : goal.returns-in-Some
 returns-in-Some c =
     let a = c.args in
-    let y = check-passed a.secure.session a.frame.now a.mac_at (sym (ap secure_told c.in-Some.is) ∙ c.check.ensures) in
-    let n : c.mac_calls-calls.result ≡ (check a.secure.session.keys (recv_from a.secure.session) a.frame.now a.mac_at).steps =
-    c.mac_calls-calls.ensures ∙ check-counted a.secure.session.keys (recv_from a.secure.session) a.frame.now a.mac_at (omega (arith, c.requires)) in
-    λ w. moves a.secure.session _ y.1 (plain-right _ (fields a.p) w n y.0)
+    let y = check-passed a.secure.session a.sealed.frame.now a.sealed.mac_at (sym (ap secure_told c.in-Some.is) ∙ c.check.ensures) in
+    let n : c.mac_calls-calls.result ≡ (check a.secure.session.keys (recv_from a.secure.session) a.sealed.frame.now a.sealed.mac_at).steps =
+    c.mac_calls-calls.ensures ∙ check-counted a.secure.session.keys (recv_from a.secure.session) a.sealed.frame.now a.sealed.mac_at (omega (arith, a.sealed.mac_inside)) in
+    λ w. moves a.secure.session _ y.1 (plain-right _ (fields a.sealed.p) w n y.0)
 
 pub returns-in-None : goal.returns-in-None
 returns-in-None c =
     let a = c.args in
-    let y = check-failed a.secure.session a.frame.now a.mac_at (sym (ap secure_told c.in-None.is) ∙ c.check.ensures) in
-    let n : c.mac_calls-calls.result ≡ (check a.secure.session.keys (recv_from a.secure.session) a.frame.now a.mac_at).steps =
-    c.mac_calls-calls.ensures ∙ check-counted a.secure.session.keys (recv_from a.secure.session) a.frame.now a.mac_at (omega (arith, c.requires)) in
-    λ w. stops c.stopped.ensures (plain-wrong _ (fields a.p) w n y)
+    let y = check-failed a.secure.session a.sealed.frame.now a.sealed.mac_at (sym (ap secure_told c.in-None.is) ∙ c.check.ensures) in
+    let n : c.mac_calls-calls.result ≡ (check a.secure.session.keys (recv_from a.secure.session) a.sealed.frame.now a.sealed.mac_at).steps =
+    c.mac_calls-calls.ensures ∙ check-counted a.secure.session.keys (recv_from a.secure.session) a.sealed.frame.now a.sealed.mac_at (omega (arith, a.sealed.mac_inside)) in
+    λ w. stops c.stopped.ensures (plain-wrong _ (fields a.sealed.p) w n y)
