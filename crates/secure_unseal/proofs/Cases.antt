@@ -4,15 +4,11 @@ use mathlib.Core.Bool.{Bool, true, false, cond}
 use mathlib.Core.List.{List, [], ◌∷◌}
 use mathlib.Core.Option.{none, some}
 use mathlib.Core.Path.{◌≡◌, refl, sym, ap, ◌∙◌}
-use Prim.Native.Nat.{ℕ, ◌+◌, ◌-◌, ◌≤◌}
-use native.Mathlib.Nat.{add-zero, add-sub_cancel_left}
+use Prim.Native.Nat.{ℕ, ◌+◌, ◌≤◌}
 use lib.Dec.{ltb}
-use native.Mathlib.Omega.{arith}
-use lib.ListN.{length, take, drop, get_or, length-drop}
-use lib.Seq.{get_or-drop}
+use lib.ListN.{length, take, drop}
 use Rattle.laws.specs.Answer.{Answer, Answer.given, Answer.refused}
 use Rattle.laws.specs.Bytes.{compl}
-use Rattle.laws.proofs.Listed.{front_listed}
 use Rattle.laws.proofs.Lists.{part_length}
 use Rattle.packet_head.specs.Block.{has_mac, is_encrypted}
 use Rattle.packet_parse.specs.Frame.{Fields, type_in, mac_start_of, parse_of}
@@ -53,12 +49,6 @@ moves s m {p = p} {w = w} {n = n} h k = ap (λ (y : Session). record { answer = 
 
 -- ---- the MAC's check
 
-pub four_listed : (f : List ℕ) (at : ℕ) → at + 4 ≤ length f → get_or f at 0 ∷ get_or f (at + 1) 0 ∷ get_or f (at + 2) 0 ∷ get_or f (at + 3) 0 ∷ [] ≡ take 4 (drop at f)
-four_listed f at h =
-    let z : get_or f at 0 ≡ get_or (drop at f) 0 0 = ap (λ (j : ℕ). get_or f j 0) (sym (add-zero at)) ∙ sym (get_or-drop at f 0 0) in
-    (λ i. z i ∷ sym (get_or-drop at f 1 0) i ∷ sym (get_or-drop at f 2 0) i ∷ sym (get_or-drop at f 3 0) i ∷ [])
-    ∙ front_listed (drop at f) 4 (omega (arith, length-drop at f))
-
 -- what a check answered
 module _ (s : Session) (f : List ℕ) (at : ℕ) where
   pub check-passed : {t : Session} → Some t ≡ checked_of s (take at f) (take 4 (drop at f))
@@ -81,11 +71,6 @@ module _ (c : Checked) (p : Fields) (w : List ℕ) {n : ℕ} (en : n ≡ c.steps
   pub plain-wrong : c.right ≡ false → record { answer = refused 15 []; moved = none; work = w; steps = n } ≡ unseal_plain c p w
   unfolding unseal_plain
   plain-wrong r = ap (λ (m : ℕ). record { answer = refused 15 []; moved = none; work = w; steps = m }) en ∙ no _ _ r
-
--- ---- the data's opening
-
-pub open_made : (k v f w : List ℕ) (at n : ℕ) {d : Done} → d ≡ decrypt_of k v (take (at + n - at) (drop at f)) w → d ≡ decrypt_of k v (take n (drop at f)) w
-open_made k v f w at n e = e ∙ ap (λ (m : ℕ). decrypt_of k v (take m (drop at f)) w) (add-sub_cancel_left at n)
 
 -- ---- types 17 and 18
 
