@@ -55,7 +55,7 @@ fn direction_of(from_reader: bool) -> Direction
     }
 }
 
-// A refusal leaves the session as it was and calls no cipher.
+// A refusal leaves the session as it was and calls no cipher. One expression, as in secure_seal, each by its definition.
 fn seal_refused(x: Session, e: Refusal) -> Sealed
     ensures { result ≡ refused_with x e }
 {

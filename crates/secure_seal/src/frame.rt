@@ -161,7 +161,7 @@ fn put_frame(secure: SecureSession, total: usize, w: ToSeal, data: &[u8], out: &
     }
 }
 
-// A refusal leaves the session as it was and calls no cipher.
+// A refusal leaves the session as it was and calls no cipher. One expression, as in crossing and secure_unseal, each by its definition.
 fn refused(session: Session, e: Refusal) -> Sealed
     ensures { result ≡ refused_with session e }
 {
