@@ -79,7 +79,7 @@ impl Session {
         Ok(secure.session.send_from())
     }
 
-    // Enciphers a payload into out.
+    // Enciphers a payload into out. The twin on a session that is Secure: promised each with its definition (docs/PROMISES.md).
     #[tactic(auto, unfolding(crate::specs::Channel::seal_data_of, crate::specs::Secure::secure_of))]
     pub fn seal_data(self, data: &[u8], out: &mut [u8]) -> Ciphered<usize>
         ensures { cipher_told result out.new ≡ seal_data_of self «data».now out.old }
@@ -93,7 +93,7 @@ impl Session {
         }
     }
 
-    // Deciphers encrypted data into out.
+    // Deciphers encrypted data into out. Its twin as above.
     #[tactic(auto, unfolding(crate::specs::Channel::open_data_of, crate::specs::Secure::secure_of))]
     pub fn open_data(self, ct: &[u8], out: &mut [u8]) -> Ciphered<usize>
         ensures { cipher_told result out.new ≡ open_data_of self ct.now out.old }

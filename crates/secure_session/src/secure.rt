@@ -70,7 +70,8 @@ impl SecureSession {
         Some(SecureSession { session })
     }
 
-    // Enciphers a payload into out, from the complement of the chain value.
+    // Enciphers a payload into out, from the complement of the chain value. The twin on any session: promised each with its definition
+    // (docs/PROMISES.md).
     pub fn seal_data(self, data: &[u8], out: &mut [u8]) -> Ciphered<usize>
         ensures { cipher_told result out.new ≡ encrypt_of self.session.keys.s_enc (compl (send_from self.session)) «data».now out.old }
     {
@@ -78,7 +79,7 @@ impl SecureSession {
         secure_cipher::encrypt_data(self.session.keys.s_enc, iv, data, out)
     }
 
-    // Deciphers encrypted data into out, from the complement of the chain value.
+    // Deciphers encrypted data into out, from the complement of the chain value. Its twin as above.
     pub fn open_data(self, ct: &[u8], out: &mut [u8]) -> Ciphered<usize>
         ensures { cipher_told result out.new ≡ decrypt_of self.session.keys.s_enc (compl (recv_from self.session)) ct.now out.old }
     {

@@ -10,6 +10,7 @@ use super::chain::Chain;
 use refusal::Refusal;
 use secure_keys::SessionKeys;
 
+// Beside secure_seal's Direction, two types of the Rust: an end, and who sends a frame.
 #[derive(Clone, Copy, PartialEq, Eq)]
 pub enum End {
     Controller = 0,
@@ -52,7 +53,7 @@ pub struct Processed<T> {
     pub session: Session,
 }
 
-// The numbers that a session's end and state have outside of this language.
+// The numbers that a session's end and state have outside of this language: both promised by name (docs/PROMISES.md).
 pub fn end_number(e: End) -> u8
     ensures { result ≡ end_number e }
 {

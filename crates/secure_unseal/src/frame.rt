@@ -12,7 +12,8 @@ use packet_parse::ParsedPacket;
 use refusal::Refusal;
 use secure_session::{Processed, SecureSession, Session};
 
-// Where an opened payload stands: in the work buffer or in the frame.
+// Where an opened payload stands: in the work buffer or in the frame. C hands in and is told the flag and the two numbers
+// (malstrink_payload_test), and `payload_test` is promised over them.
 #[derive(Clone, Copy)]
 pub struct PayloadPlace {
     pub in_work: bool,
