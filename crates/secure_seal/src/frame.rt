@@ -77,7 +77,7 @@ fn total_len(encrypt: bool, data: &[u8]) -> usize
     }
 }
 
-// The tests of a frame of total bytes, in the paper's order, for a buffer of `have`.
+// The tests of a frame of total bytes, in the order of `frame_test`, for a buffer of `have`. What packet_build tests stands in other orders.
 #[tactic(auto, unfolding(crate::specs::Seal::frame_test, laws::specs::Answer::refuse_if))]
 fn test(sqn: Sqn, total: usize, have: usize) -> Result<usize, Refusal>
     ensures { length_answer result ≡ frame_test sqn.0 total have }
@@ -139,8 +139,7 @@ fn put_end(full: [u8; 16], end: usize, out: &mut [u8])
     let crc_at = end + MAC_LEN;
     slices::copy(&mut out[end..crc_at], 0, &mac);
     let crc = packet_sums::crc16_le(&out[..crc_at]);
-    out[crc_at] = crc[0];
-    out[crc_at + 1] = crc[1];
+    out[crc_at..crc_at + CRC_LEN].copy_from_slice(&crc);
 }
 
 // The frame of total bytes at the front of out; how often the cipher was called for all of it, and the session with its chain moved by

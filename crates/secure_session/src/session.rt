@@ -66,6 +66,7 @@ pub fn state_number(t: State) -> u8
     t as u8
 }
 
+// Zeros written out, as `no_keys` names them.
 pub(crate) fn no_keys() -> SessionKeys
     ensures { result ≡ no_keys }
 {

@@ -1,8 +1,7 @@
 -- `secure_seal::frame::put_end` meets its contract: the MAC is copied to its place, and the CRC laid behind it.
 use Rattle.laws.specs.Blocks.{Block}
 use Rattle.laws.specs.Over.{write}
-use Rattle.laws.proofs.Overwrite.{length-write, set_two}
-use Rattle.laws.proofs.Listed.{all_listed}
+use Rattle.laws.proofs.Overwrite.{length-write, part_write}
 use Rattle.slices.proofs.CopyLaws.{copied_part}
 use Rattle.secure_session.proofs.Owned.{array_block}
 use Rattle.secure_seal.proofs.FrameWritten.{end_written}
@@ -10,6 +9,7 @@ use mathlib.Core.Path.{◌≡◌, refl, ap, ◌∙◌}
 use mathlib.Core.List.{List, [], ◌∷◌}
 use Prim.Native.Nat.{ℕ, ◌+◌, ◌-◌}
 use borrow.Rule.Slice.PartMut.{put_mid}
+use borrow.Author.Rules.{rules}
 use native.Mathlib.Omega.{arith}
 use lib.ListN.{length, get_or}
 use Rattle.secure_seal.proofs.frame.put_end.Goals as goal
@@ -22,5 +22,7 @@ returns c = let laid : List ℕ = let a = c.args in put_mid a.end (a.end + 4 - a
     let a = c.args in
     let f : Block a.full = array_block c.well_formed.0 in
     let e = c.crc16_le-crc.ensures in
+    let k : c.copy_from_slice.new.self ≡ c.crc16_le-crc.result = search rules in
+    let m : length c.copy_from_slice.new.self ≡ a.end + 4 + 2 - (a.end + 4) = ap length (k ∙ e) ∙ omega arith in
     end_written a.out.now (laid) _ a.full c.crc16_le-crc.result a.end f.size (mac-laid-in) e
-    (set_two (laid) (a.end + 4) _ _ (omega (arith, as_long, c.requires)) ∙ ap (write (laid) (a.end + 4)) (all_listed c.crc16_le-crc.result 2 (ap length e)))
+    (part_write (laid) (a.end + 4) (a.end + 4 + 2 - (a.end + 4)) _ m ∙ ap (write (laid) (a.end + 4)) k)
