@@ -9,8 +9,7 @@ use lib.ListN.{length, take, drop, length-drop}
 use lib.Seq.{length-take-le}
 use Rattle.laws.specs.Bytes.{zeros}
 use Rattle.laws.specs.Over.{write}
-use Rattle.laws.proofs.Lists.{nothing}
-use Rattle.laws.proofs.Overwrite.{write_nil, write_whole, part_write}
+use Rattle.laws.proofs.Overwrite.{write_whole, part_write}
 use Rattle.slices.specs.Copy.{copy_of, zero_of}
 use Rattle.slices.proofs.PlaceLaws.{fits_all}
 
@@ -18,10 +17,6 @@ module _ (o : List ℕ) (at : ℕ) (s : List ℕ) where
   pub copy-all : at + length s ≤ length o → copy_of o at s ≡ write o at s
   unfolding copy_of
   copy-all h = rw (le-ltb (length o) (at + length s) h)
-
-  pub copy_none : length s ≡ 0 → copy_of o at s ≡ o
-  unfolding copy_of
-  copy_none h = let e : write o at s ≡ o = ap (write o at) (sym (nothing s h)) ∙ write_nil o at in grind (arith, e)
 
 -- as a caller finds it
 pub copied_all : (o : List ℕ) (at : ℕ) (s : List ℕ) {o₂ : List ℕ} → o₂ ≡ copy_of o at s → at + length s ≤ length o → o₂ ≡ write o at s

@@ -1,12 +1,24 @@
 // Bytes written over a part of a slice.
-ghost use Rattle.std.specs.Prelude.{◌≡◌, not, length};
+ghost use Rattle.std.specs.Prelude.{◌≡◌, not, ◌+◌, ◌≤◌, length};
+ghost use Rattle.laws.specs.Over.{write};
 ghost use Rattle.slices.specs.Place.{runs_past};
 ghost use Rattle.slices.specs.Copy.{copy_of, zero_of};
 
 use super::place::{end_of, outside};
 
+// All of src over out from `at` on. By index and not by copy_from_slice, which asks memmove of whoever links the archive:
+// include/malstrink.h promises that it asks for memcpy and memset and nothing else.
+fn lay(out: &mut [u8], at: usize, src: &[u8])
+    requires { at + length src.now ≤ length out.old }
+    ensures { out.new ≡ write out.old at src.now }
+{
+    for i in 0..src.len() {
+        out[at + i] = src[i];
+    }
+}
+
 // Writes src over out from `at` on, and answers whether there was room: where there was not, nothing is written.
-#[tactic(auto, using(crate::proofs::CopyLaws::copy_none, laws::proofs::Overwrite::part_write), unfolding(crate::specs::Copy::copy_of))]
+#[tactic(auto, unfolding(crate::specs::Copy::copy_of))]
 pub fn copy(out: &mut [u8], at: usize, src: &[u8]) -> bool
     ensures value { result ≡ not (runs_past (length out.old) at (length src.now)) }
     ensures out_after { out.new ≡ copy_of out.old at src.now }
@@ -14,10 +26,7 @@ pub fn copy(out: &mut [u8], at: usize, src: &[u8]) -> bool
     if outside(out.len(), at, src.len()) {
         return false;
     }
-    // The test spares a call of memcpy that copies nothing, as where a frame has no data.
-    if !src.is_empty() {
-        out[at..at + src.len()].copy_from_slice(src);
-    }
+    lay(out, at, src);
     true
 }
 
