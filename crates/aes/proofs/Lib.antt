@@ -2,6 +2,7 @@ mod Turns
 mod Steps
 mod InHalves
 mod RoundKeys
+pub mod LentLaws
 mod KeyHalves
 pub mod Inverse
 pub mod Laws

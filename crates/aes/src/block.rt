@@ -3,6 +3,7 @@ ghost use Rattle.std.specs.Prelude.{◌≡◌};
 ghost use Rattle.aes.specs.Cipher.{E, D};
 ghost use Rattle.aes.specs.Ready.{enciphered, deciphered};
 ghost use Rattle.aes.specs.Halves.{schedule_of};
+ghost use Rattle.aes.specs.Lent.{table_bytes, key_bytes};
 
 use crate::direction::{Deciphering, Direction, Enciphering};
 use crate::ready;
@@ -22,15 +23,17 @@ fn cipher<D: Direction>(t: &[u8; 256], keys: &[Halves; 11], block: [u8; 16]) -> 
 }
 
 // Enciphers a block under a key made ready.
+#[tactic(auto, unfolding(crate::specs::Ready::enciphered))]
 pub fn encrypt(t: &ready::EncryptTables, k: &ready::EncryptKey, block: [u8; 16]) -> [u8; 16]
-    ensures { result ≡ enciphered t.now k.now block }
+    ensures { result ≡ enciphered (table_bytes t.now) (key_bytes k.now) block }
 {
     cipher::<Enciphering>(t.entries, &k.round_keys, block)
 }
 
 // Deciphers a block under a key made ready for that.
+#[tactic(auto, unfolding(crate::specs::Ready::deciphered))]
 pub fn decrypt(t: &ready::DecryptTables, k: &ready::DecryptKey, block: [u8; 16]) -> [u8; 16]
-    ensures { result ≡ deciphered t.now k.now block }
+    ensures { result ≡ deciphered (table_bytes t.now) (key_bytes k.now) block }
 {
     cipher::<Deciphering>(t.entries, &k.round_keys, block)
 }

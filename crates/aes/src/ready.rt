@@ -1,28 +1,23 @@
 // What a run of blocks under one key goes by, made once for the run and lent for each block: the key made ready, and the tables,
-// which all keys share. A contract sees the bytes of either.
-ghost use Rattle.std.specs.Prelude.{◌≡◌, List, ℕ};
+// which all keys share. A contract sees the bytes of either (specs/Lent), and no `impl Model` does it: both are copied, as the arrays
+// before them were, and a type with a view is not.
+ghost use Rattle.std.specs.Prelude.{◌≡◌};
 ghost use Rattle.aes.specs.Ready.{encrypt_tables, decrypt_tables, encrypt_key, decrypt_key};
 ghost use Rattle.aes.specs.Halves.{schedule_of};
+ghost use Rattle.aes.specs.Lent.{table_bytes, key_bytes};
 
 use crate::direction::{Deciphering, Direction, Enciphering};
 use crate::round::Halves;
 use crate::schedule;
-use std::marker::Model;
 
 // A substitution table, lent.
-#[derive(Clone, Drop)]
+#[derive(Clone, Copy)]
 pub struct Tables<'a> {
     pub(crate) entries: &'a [u8; 256],
 }
 
-impl<'a> Model for Tables<'a> {
-    ghost Value = { List ℕ };
-
-    ghost view = { λ t. t.entries.now };
-}
-
 impl<'a> From<&'a [u8; 256]> for Tables<'a> {
-    ghost from_gives = { λ entries t. t ≡ entries.now };
+    ghost from_gives = { λ entries t. table_bytes t ≡ entries.now };
 
     fn from(entries: &'a [u8; 256]) -> Self {
         Tables { entries }
@@ -30,19 +25,13 @@ impl<'a> From<&'a [u8; 256]> for Tables<'a> {
 }
 
 // A key made ready: its round keys.
-#[derive(Clone, Drop)]
+#[derive(Clone, Copy)]
 pub struct Key {
     pub(crate) round_keys: [Halves; 11],
 }
 
-impl Model for Key {
-    ghost Value = { List ℕ };
-
-    ghost view = { λ k. schedule_of k.round_keys };
-}
-
 impl From<[Halves; 11]> for Key {
-    ghost from_gives = { λ round_keys k. k ≡ schedule_of round_keys };
+    ghost from_gives = { λ round_keys k. key_bytes k ≡ schedule_of round_keys };
 
     fn from(round_keys: [Halves; 11]) -> Self {
         Key { round_keys }
@@ -61,21 +50,21 @@ pub type DecryptKey = Key;
 // Four names that are promised (docs/PROMISES.md), over what both directions share.
 #[tactic(auto, unfolding(crate::specs::Ready::encrypt_tables))]
 pub fn encrypt_tables() -> EncryptTables<'static>
-    ensures { result ≡ encrypt_tables }
+    ensures { table_bytes result ≡ encrypt_tables }
 {
     Enciphering::table().into()
 }
 
 #[tactic(auto, unfolding(crate::specs::Ready::decrypt_tables))]
 pub fn decrypt_tables() -> DecryptTables<'static>
-    ensures { result ≡ decrypt_tables }
+    ensures { table_bytes result ≡ decrypt_tables }
 {
     Deciphering::table().into()
 }
 
 #[tactic(auto, unfolding(crate::specs::Ready::encrypt_key))]
 pub fn encrypt_key(t: &EncryptTables, key: [u8; 16]) -> EncryptKey
-    ensures { result ≡ encrypt_key t.now key }
+    ensures { key_bytes result ≡ encrypt_key (table_bytes t.now) key }
 {
     schedule::expand(t.entries, key).into()
 }
@@ -83,7 +72,7 @@ pub fn encrypt_key(t: &EncryptTables, key: [u8; 16]) -> EncryptKey
 // A key is made ready with the tables of enciphering both ways.
 #[tactic(auto, unfolding(crate::specs::Ready::decrypt_key))]
 pub fn decrypt_key(t: &EncryptTables, key: [u8; 16]) -> DecryptKey
-    ensures { result ≡ decrypt_key t.now key }
+    ensures { key_bytes result ≡ decrypt_key (table_bytes t.now) key }
 {
     schedule::expand(t.entries, key).into()
 }

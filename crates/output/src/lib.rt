@@ -38,7 +38,7 @@ impl Program<'_> {
 
 // What prints on standard output. Why a write failed is said at once; after it nothing more is written, and each call answers it again.
 // It is made with braces: a call for it would say no more than `so_far: Ok(())`.
-#[derive(Drop)]
+#[derive(Clone, Copy)]
 pub struct Writer<'a> {
     pub program: Program<'a>,
     pub so_far: io::Result<()>,

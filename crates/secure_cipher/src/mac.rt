@@ -1,5 +1,6 @@
 // The chain MAC, over a slice that is not copied.
 ghost use Rattle.std.specs.Prelude.{◌≡◌, ◌-◌, ◌*◌, ◌/◌, ◌<◌, length, take, drop};
+ghost use Rattle.aes.specs.Lent.{table_bytes};
 ghost use Rattle.aes.specs.Ready.{encrypt_tables};
 ghost use Rattle.secure_cipher.specs.Pad.{pad_mac};
 ghost use Rattle.secure_cipher.specs.Mac.{mac_of, mac_calls, mac_told};
@@ -16,7 +17,7 @@ pub struct ChainMac {
 
 // The chain value after blocks, each XORed in and enciphered with `key`. Of no block no key is made ready.
 fn chain(t: &aes::EncryptTables, key: [u8; 16], icv: [u8; 16], blocks: &[[u8; 16]]) -> [u8; 16]
-    requires { t.now ≡ encrypt_tables }
+    requires { table_bytes t.now ≡ encrypt_tables }
     ensures { result ≡ chained key icv blocks.now }
 {
     if blocks.is_empty() {

@@ -3,6 +3,7 @@
 ghost use Rattle.std.specs.Prelude.{◌≡◌, ◌++◌};
 ghost use Rattle.laws.specs.Bytes.{compl};
 ghost use Rattle.aes.specs.Cipher.{E, D};
+ghost use Rattle.aes.specs.Lent.{table_bytes, key_bytes};
 ghost use Rattle.aes.specs.Ready.{enciphered};
 ghost use Rattle.secure_keys.specs.Keys.{template, derive, client_of, server_of, first_of, legacy_of};
 
@@ -44,7 +45,7 @@ impl SessionKeys {
         let t = aes::encrypt_tables();
         let k = aes::encrypt_key(&t, scbk);
         let key = |tag: u8| -> [u8; 16]
-            ensures { result ≡ enciphered t.entry k (template tag rnd_a) }
+            ensures { result ≡ enciphered (table_bytes t.entry) (key_bytes k) (template tag rnd_a) }
         { aes::encrypt(&t, &k, key_template(tag, rnd_a)) };
         SessionKeys {
             s_enc: key(0x82),

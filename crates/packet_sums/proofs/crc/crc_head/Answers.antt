@@ -10,15 +10,12 @@ use Rattle.laws.proofs.Lists.{part_length, nothing}
 use Rattle.packet_sums.specs.Crc.{crc_start, crc_byte, crc_of}
 use Rattle.packet_sums.specs.Word.{word_from, crc_word}
 use Rattle.packet_sums.proofs.CrcLaws.{crc_nil, crc-take}
-use Rattle.packet_sums.proofs.WordLaws.{word_nil, word-append, word_lt, chunk_at, pair_below}
+use Rattle.packet_sums.proofs.WordLaws.{word-append, word_lt, chunk_at, pair_below}
 use Rattle.packet_sums.proofs.Step.{word-start}
 use Rattle.packet_sums.proofs.crc.crc_head.Goals as goal
 
 pub returns-then-is_empty : goal.returns-then-is_empty
 returns-then-is_empty c = let s = c.args.head.now in sym (crc_nil crc_start) ∙ ap crc_of (nothing s (eqb-true (length s) 0 (sym c.is_empty.ensures ∙ c.if-is_empty.true)))
-
-pub loop-pair-init : goal.loop-pair-init
-loop-pair-init c = sym (word_nil 0xFFFF)
 
 pub loop-pair-preserved : goal.loop-pair-preserved
 loop-pair-preserved c =

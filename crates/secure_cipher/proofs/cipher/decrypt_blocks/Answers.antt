@@ -9,6 +9,7 @@ use Rattle.laws.specs.Bytes.{xorl}
 use Rattle.laws.specs.Blocks.{blocks}
 use Rattle.laws.specs.Over.{write}
 use Rattle.laws.proofs.BlockLists.{length-blocks}
+use Rattle.aes.specs.Lent.{key_bytes}
 use Rattle.aes.specs.Ready.{encrypt_tables, decrypt_key}
 use Rattle.aes.proofs.Laws.{deciphers}
 use Rattle.secure_cipher.proofs.Turns.{get_or-chunks}
@@ -41,7 +42,7 @@ returns c =
     let p = a.ct.now in
     let n = length c.as_chunks.result.0.now in
     let e : n ≡ length p / 16 = c.as_chunks.ensures.front_len in
-    let h : c.decrypt_key-k.result ≡ decrypt_key encrypt_tables a.key = cc in
+    let h : key_bytes c.decrypt_key-k.result ≡ decrypt_key encrypt_tables a.key = cc in
     let q = l.invariant a.key h in
     let z = dec_none a.key p n l.i l.v c.loop-i-test.false in
     let d = dec_all a.key p n a.iv e in

@@ -3,9 +3,10 @@ use mathlib.Core.Path.{◌≡◌}
 use mathlib.Core.List.{List}
 use Prim.Native.Nat.{ℕ}
 use lib.ListN.{drop}
+use Rattle.aes.specs.Lent.{table_bytes, key_bytes}
 use Rattle.aes.specs.Ready.{encrypt_key}
 use Rattle.secure_cipher.specs.Parts.{chained}
 use Rattle.secure_cipher.proofs.mac.chain.Given as goal
 
 abbrev pub invariant-loop-b : goal.invariant-loop-b
-invariant-loop-b l = (k : List ℕ) → l.k ≡ encrypt_key l.t k → chained k l.v (drop l.b-index l.blocks) ≡ chained k l.initial.v l.blocks
+invariant-loop-b l = (k : List ℕ) → key_bytes l.k ≡ encrypt_key (table_bytes l.t) k → chained k l.v (drop l.b-index l.blocks) ≡ chained k l.initial.v l.blocks
