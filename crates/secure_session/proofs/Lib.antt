@@ -1,4 +1,6 @@
+mod Cases
 mod Four
+mod ChannelCases
 mod Marks
 pub mod Settled
 pub mod SessionLaws

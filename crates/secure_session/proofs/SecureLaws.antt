@@ -1,19 +1,24 @@
 -- What the calls of the channel come to on a session that is Secure.
 -- Assumes nothing.
-use Rattle.std.specs.Prelude.{Option, Some, None}
+use Rattle.std.specs.Prelude.{Option, Some, None, Result, Ok, ⊤}
 use mathlib.Core.Bool.{Bool, true, false, cond}
 use mathlib.Core.List.{List, []}
-use mathlib.Core.Path.{◌≡◌, refl}
+use mathlib.Core.Path.{◌≡◌, refl, sym, ap, ◌∙◌}
 use Prim.Native.Nat.{ℕ}
 use lib.ListN.{take}
 use Rattle.laws.specs.Answer.{Answer.given, Answer.refused}
 use Rattle.laws.specs.Bytes.{compl, eql}
+use Rattle.laws.proofs.Answers.{given-refused}
+use Rattle.refusal.specs.Reading.{outcome_answer}
+use Rattle.refusal.specs.declared.Refusal.{Refusal}
 use Rattle.secure_cipher.specs.Cbc.{encrypt_of, decrypt_of}
 use Rattle.secure_session.specs.Channel.{session_mac, make_mac, verify_of, seal_data_of, open_data_of}
+use Rattle.secure_session.specs.Handshake.{Step, stepped}
 use Rattle.secure_session.specs.Secure.{secure_of, checked_of}
 use Rattle.secure_session.specs.Chain.{send_from, recv_from, sent, received}
 use Rattle.secure_session.specs.Session.{is_secure}
 use Rattle.secure_session.specs.declared.session.Session.{Session}
+use Rattle.secure_session.specs.declared.session.Stepped.{Stepped}
 
 -- which session there is, and that there is none, by a test
 some_by : (b : Bool) (s : Session) {t : Session} → Some t ≡ cond b (Some s) None → (b ≡ true) × (t ≡ s)
@@ -47,6 +52,15 @@ module _ (s : Session) where
     unfolding checked_of
     mac_wrong = none_by right _
 
+-- what a check answers, and the session after it, by whether the MAC is right
+abbrev verified : Bool → Session → Session → Step (Unit {0})
+verified b s t = cond b (record { answer = given tt; session = t }) (record { answer = refused 15 []; session = s })
+
+right_or : (b : Bool) (s t : Session) (r : Stepped ⊤) → stepped r ≡ verified b s t → r.answer ≡ Ok tt → (b ≡ true) × (r.session ≡ t)
+right_or true s t r e h = (refl, ap (λ (x : Step (Unit {0})). x.session) e)
+right_or false s t r e h =
+    absurd (given-refused (ap (λ (o : Result ⊤ Refusal). outcome_answer {A = Unit {0}} o tt) (sym h) ∙ ap (λ (x : Step (Unit {0})). x.answer) e))
+
 module _ (s : Session) (secure : is_secure s.state ≡ true) where
   pub secure-mac : (l : List ℕ) → let m = (session_mac s (send_from s) l).full in make_mac s l ≡ record { answer = given m; session = sent s m }
   unfolding make_mac
@@ -65,3 +79,8 @@ module _ (s : Session) (secure : is_secure s.state ≡ true) where
   pub secure-open-data : (c o : List ℕ) → open_data_of s c o ≡ decrypt_of s.keys.s_enc (compl (recv_from s)) c o
   unfolding open_data_of
   secure-open-data c o = rw secure
+
+  -- as the code has it
+  pub verify-right : (l w : List ℕ) (r : Stepped ⊤) → stepped r ≡ verify_of s l w → r.answer ≡ Ok tt
+      → let m = (session_mac s (recv_from s) l).full in (eql (take 4 m) w ≡ true) × (r.session ≡ received s m)
+  verify-right l w r e h = right_or _ s _ r (e ∙ secure-verify l w) h
