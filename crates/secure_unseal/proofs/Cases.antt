@@ -14,13 +14,17 @@ use Rattle.packet_head.specs.Block.{has_mac, is_encrypted}
 use Rattle.packet_parse.specs.Frame.{Fields, type_in, mac_start_of, parse_of}
 use Rattle.refusal.specs.Paper.{refusal_of}
 use Rattle.refusal.specs.declared.Refusal.{Refusal}
-use Rattle.std.specs.Prelude.{Some, None}
+use Rattle.std.specs.Prelude.{Some, None, Ok, ⊤}
 use Rattle.secure_cipher.specs.Cbc.{Done, Opening, cipher_stop, decrypt_of, opened_into, wiped}
 use Rattle.secure_keys.specs.declared.crypto.SessionKeys.{SessionKeys}
 use Rattle.secure_session.specs.Chain.{recv_from, received}
+use Rattle.secure_session.specs.Session.{is_secure}
+use Rattle.secure_session.specs.Handshake.{stepped}
+use Rattle.secure_session.specs.Channel.{verify_of}
 use Rattle.secure_session.specs.Secure.{secure_of, checked_of}
 use Rattle.secure_session.specs.declared.session.Session.{Session}
-use Rattle.secure_session.proofs.SecureLaws.{secure_taken, not_secure, mac_right, mac_wrong}
+use Rattle.secure_session.specs.declared.session.Stepped.{Stepped}
+use Rattle.secure_session.proofs.SecureLaws.{secure_taken, not_secure, mac_right, mac_wrong, verify-right}
 use Rattle.secure_unseal.specs.Unseal.{Checked, Place, UnsealRun, unseal_stop, check, open_data, unseal_plain, unseal_opened, unseal_hidden, unseal_parsed, unseal_run, unseal_of, after_unseal, unsealed_on, unseal_told}
 use Rattle.secure_unseal.specs.Parts.{stopped}
 use Rattle.secure_session.specs.declared.session.Processed.{Processed}
@@ -49,12 +53,18 @@ moves s m {p = p} {w = w} {n = n} h k = ap (λ (y : Session). record { answer = 
 
 -- ---- the MAC's check
 
--- what a check answered
+-- what `verify` came to, on any session that is Secure
+module _ (s : Session) (secure : is_secure s.state ≡ true) (f : List ℕ) (at : ℕ) (r : Stepped ⊤) (e : stepped r ≡ verify_of s (take at f) (take 4 (drop at f))) where
+  pub check-passed : r.answer ≡ Ok tt → ((check s.keys (recv_from s) f at).right ≡ true) × (r.session ≡ received s (check s.keys (recv_from s) f at).full)
+  unfolding check
+  check-passed h = verify-right s secure (take at f) (take 4 (drop at f)) r e h
+
+-- what the check of a session that is one by its type answered
 module _ (s : Session) (f : List ℕ) (at : ℕ) where
-  pub check-passed : {t : Session} → Some t ≡ checked_of s (take at f) (take 4 (drop at f))
+  pub check-right : {t : Session} → Some t ≡ checked_of s (take at f) (take 4 (drop at f))
       → ((check s.keys (recv_from s) f at).right ≡ true) × (t ≡ received s (check s.keys (recv_from s) f at).full)
   unfolding check
-  check-passed = mac_right s (take at f) (take 4 (drop at f))
+  check-right = mac_right s (take at f) (take 4 (drop at f))
 
   pub check-failed : None ≡ checked_of s (take at f) (take 4 (drop at f)) → (check s.keys (recv_from s) f at).right ≡ false
   unfolding check

@@ -13,7 +13,7 @@ use Rattle.secure_session.specs.declared.session.Session.{Session}
 use Rattle.secure_session.proofs.SessionLaws.{recv_block}
 use Rattle.secure_session.proofs.Owned.{secure-enc-block, secure-chain-kept}
 use Rattle.secure_unseal.specs.Unseal.{check}
-use Rattle.secure_unseal.proofs.Cases.{stops, moves, check-passed, check-failed, hidden-no, hidden-right, hidden-wrong}
+use Rattle.secure_unseal.proofs.Cases.{stops, moves, check-right, check-failed, hidden-no, hidden-right, hidden-wrong}
 use Rattle.secure_unseal.proofs.Wiping.{found-steps, found-room, found-wiped, check-steps, check-counted}
 use Rattle.secure_unseal.proofs.frame.unseal_hidden.Goals as goal
 
@@ -39,7 +39,7 @@ wipe-requires c =
 pub returns-in-Some : goal.returns-in-Some
 returns-in-Some c =
     let a = c.args in
-    let y = check-passed a.secure.session a.sealed.frame.now a.sealed.mac_at (sym (ap secure_told c.in-Some.is) ∙ c.check.ensures) in
+    let y = check-right a.secure.session a.sealed.frame.now a.sealed.mac_at (sym (ap secure_told c.in-Some.is) ∙ c.check.ensures) in
     moves a.secure.session _ y.1
     (hidden-right a.secure.session.keys (recv_from a.secure.session) a.sealed.frame.now (fields a.sealed.p) a.work.now a.sealed.data_inside c.open_data-o.ensures _ _ (ap length_answer c.in-Ok.is)
     (counted a.secure.session a.sealed.frame.now a.sealed.mac_at a.sealed.mac_inside c.mac_calls.ensures) y.0)
