@@ -53,15 +53,25 @@ places_with x k t =
       mac = record { at = x.mac.at; len = x.mac.len };
     }
 
+abbrev accepted_from : Shown → Places
+accepted_from x = places_with x (kind_from x.type) (trailer_from x.trailer)
+
+accepted_back : (p : Places) → accepted_from (places_told (Ok p)) ≡ p
+accepted_back p = λ i. places_with (places_told (Ok p)) (kind_back p.block i) (trailer_back p.trailer i)
+
 abbrev places_from : Shown → Result Places Refusal
-places_from x = answer_from (λ done. places_with x (kind_from x.type) (trailer_from x.trailer)) x.outcome
+places_from x = answer_from (λ done. accepted_from x) x.outcome
 
 places_back : (r : Result Places Refusal) → places_from (places_told r) ≡ r
-places_back (Ok p) = λ i. Ok (places_with (places_told (Ok p)) (kind_back p.block i) (trailer_back p.trailer i))
+places_back (Ok p) = ap Ok (accepted_back p)
 places_back (Err e) = ap Err (told_back e)
 
 pub places_settled : (p q : Result Places Refusal) → places_told p ≡ places_told q → p ≡ q
 places_settled = one_reading places_told places_from places_back
+
+-- what a view tells, likewise
+pub told_settled : (p q : Places) → places_told (Ok p) ≡ places_told (Ok q) → p ≡ q
+told_settled = one_reading (λ p. places_told (Ok p)) accepted_from accepted_back
 
 -- ---- the view: a frame, and what the places tell
 

@@ -142,3 +142,19 @@ places_told (Err e) = nothing_shown (number_of e) (values_of e)
 -- a view's frame, and what it tells
 abbrev pub viewed : PacketView → Bor (List ℕ) × Shown
 viewed v = (v.frame, places_told v.read)
+
+-- what a view tells beside its outcome, as the places of an accepted frame tell it
+abbrev pub as_accepted : Shown → Shown
+as_accepted x =
+    record {
+      outcome = given tt;
+      addr = x.addr;
+      ctrl = x.ctrl;
+      type = x.type;
+      code = x.code;
+      trailer = x.trailer;
+      len = x.len;
+      block = x.block;
+      payload = x.payload;
+      mac = x.mac;
+    }

@@ -1,11 +1,12 @@
 // The view. Its functions take it apart and call those on the slice and the numbers.
-ghost use Rattle.std.specs.Prelude.{◌≡◌};
+ghost use Rattle.std.specs.Prelude.{◌≡◌, Ok};
 ghost use Rattle.slices.specs.Stretch.{stretch_of};
 ghost use Rattle.packet_parse.specs.Frame.{parse_of};
 ghost use Rattle.slices.specs.Place.{part_seen};
-ghost use Rattle.packet_view.specs.View.{span, places_told, places_of, viewed, block_data_seen, payload_seen, frame_mac_seen};
+ghost use Rattle.packet_view.specs.View.{places_told, places_of, viewed, as_accepted, block_data_seen, payload_seen, frame_mac_seen};
 
 use super::parts::{Places, Span, places_in};
+use packet_head::{Address, ControlByte, Sqn, Trailer};
 use refusal::Refusal;
 
 // A frame, and what reading it told.
@@ -13,32 +14,6 @@ use refusal::Refusal;
 pub struct PacketView<'a> {
     pub frame: &'a [u8],
     pub read: Result<Places, Refusal>,
-}
-
-// Where the three parts stand.
-#[derive(Clone, Copy)]
-struct Parts {
-    block_data: Span,
-    payload: Span,
-    mac: Span,
-}
-
-// After a refusal each is empty.
-fn parts_of(read: Result<Places, Refusal>) -> Parts
-    ensures { (span result.block_data ≡ (places_told read).block) × (span result.payload ≡ (places_told read).payload) × (span result.mac ≡ (places_told read).mac) }
-{
-    match read {
-        Ok(p) => Parts {
-            block_data: p.block_data,
-            payload: p.payload,
-            mac: p.mac,
-        },
-        Err(_) => Parts {
-            block_data: Span::NOWHERE,
-            payload: Span::NOWHERE,
-            mac: Span::NOWHERE,
-        },
-    }
 }
 
 impl<'a> PacketView<'a> {
@@ -52,22 +27,42 @@ impl<'a> PacketView<'a> {
         }
     }
 
+    // What it tells of the frame: the places of an accepted one, and after a refusal zero or nothing for each (docs/DECISIONS.md).
+    pub fn told(self) -> Places
+        ensures { places_told (Ok result) ≡ as_accepted (viewed self.entry).1 }
+    {
+        match self.read {
+            Ok(places) => places,
+            Err(_) => Places {
+                addr: Address::from_raw(0),
+                ctrl: ControlByte::new(Sqn::ZERO, false, false),
+                block: None,
+                code: 0,
+                trailer: Trailer::Checksum(0),
+                len: 0,
+                block_data: Span::NOWHERE,
+                payload: Span::NOWHERE,
+                mac: Span::NOWHERE,
+            },
+        }
+    }
+
     pub fn block_data(self) -> &'a [u8]
         ensures { stretch_of result ≡ part_seen self.entry.frame (viewed self.entry).1.block.at (viewed self.entry).1.block.len }
     {
-        parts_of(self.read).block_data.of(self.frame)
+        self.told().block_data.of(self.frame)
     }
 
     pub fn payload(self) -> &'a [u8]
         ensures { stretch_of result ≡ part_seen self.entry.frame (viewed self.entry).1.payload.at (viewed self.entry).1.payload.len }
     {
-        parts_of(self.read).payload.of(self.frame)
+        self.told().payload.of(self.frame)
     }
 
     pub fn mac(self) -> &'a [u8]
         ensures { stretch_of result ≡ part_seen self.entry.frame (viewed self.entry).1.mac.at (viewed self.entry).1.mac.len }
     {
-        parts_of(self.read).mac.of(self.frame)
+        self.told().mac.of(self.frame)
     }
 }
 
