@@ -6,9 +6,7 @@ use mathlib.Core.List.{List, [], ◌∷◌, ◌++◌}
 use Prim.Native.Nat.{ℕ, ◌+◌, ◌-◌, ◌≤◌, ◌<◌}
 use native.Mathlib.Omega.{arith}
 use lib.ListN.{length, take}
-use borrow.Rule.Slice.PartMut.{put_mid}
 use lib.Seq.{take-take, length-take-le}
-use Rattle.std.proofs.lemmas.Slice.{take-put_mid_below}
 use Rattle.std.specs.Prelude.{Result}
 use Rattle.std.specs.declared.result.Result.TheVariants.{Ok}
 use Rattle.laws.specs.Answer.{Answer.given, Answer.refused}
@@ -17,23 +15,29 @@ use Rattle.packet_parse.specs.Frame.{Head, head_of, parse_of, fields, parsed}
 use Rattle.packet_parse.specs.Driver.{wanted_of}
 use Rattle.packet_parse.specs.declared.codec.ParsedPacket.{ParsedPacket}
 use Rattle.packet_parse.proofs.Arriving.{parse_of_refused, parse_waits, parse_decided, accepted_wanted, wanted_as, wanted_of_five, wanted_of_few, five_wanted}
-use Rattle.driver.specs.Arrives.{Arrives}
+use Rattle.driver.specs.Arrives.{Arrives, Fills}
 use Rattle.driver.specs.declared.arrive.Arrival.{Arrival}
+use Rattle.driver.specs.declared.arrive.There.{There}
+
+-- ---- filling a part
+
+pub filled_all : (want : ℕ) (t : There) (n : ℕ) → Fills want t → t ≡ There.All n → n ≡ want
+filled_all want t n f e = let k : Fills want (There.All n) = subst (Fills want) e f in k
+
+pub filled_ended : (want : ℕ) (t : There) (n : ℕ) → Fills want t → t ≡ There.Ended n → n < want
+filled_ended want t n f e = let k : Fills want (There.Ended n) = subst (Fills want) e f in k
 
 -- ---- what is wanted
 
 -- what was wanted of the first five bytes still is, when more have come behind them
-module _ (room came : List ℕ) (k n w : ℕ) (five : 5 ≤ length room) (e : wanted_of (take 5 room) ≡ w) (h : 5 ≤ n) where
-  still_wanted : wanted_of (take n (put_mid 5 k room came)) ≡ w
-  still_wanted =
-      sym (wanted_of_five (take n (put_mid 5 k room came)))
-      ∙ ap wanted_of (take-take 5 n (put_mid 5 k room came) h ∙ take-put_mid_below 5 k room came 5 (omega arith) five) ∙ e
+still_wanted : (room old : List ℕ) (n : ℕ) → take 5 room ≡ take 5 old → 5 ≤ n → wanted_of (take n room) ≡ wanted_of (take 5 old)
+still_wanted room old n same h = sym (wanted_of_five (take n room)) ∙ ap wanted_of (take-take 5 n room h ∙ same)
 
-  pub all_came : n ≡ w → wanted_of (take n (put_mid 5 k room came)) ≡ n
-  all_came l = still_wanted ∙ sym l
+pub all_came : (room old : List ℕ) (n w : ℕ) → take 5 room ≡ take 5 old → wanted_of (take 5 old) ≡ w → 5 ≤ w → n ≡ w → wanted_of (take n room) ≡ n
+all_came room old n w same e h l = still_wanted room old n same (omega arith) ∙ e ∙ sym l
 
-  pub fewer_came : n < w → n < wanted_of (take n (put_mid 5 k room came))
-  fewer_came l = let s = still_wanted in omega arith
+pub fewer_came : (room old : List ℕ) (n w : ℕ) → take 5 room ≡ take 5 old → wanted_of (take 5 old) ≡ w → 5 ≤ n → n < w → n < wanted_of (take n room)
+fewer_came room old n w same e h l = let k = still_wanted room old n same h in omega arith
 
 -- where `head` answers of five bytes, what it says is wanted
 pub wanted_answered : (room : List ℕ) (n : ℕ) (h : Head) → n ≡ 5 → head_of (take n room) ≡ given h → wanted_of (take 5 room) ≡ 5 + (h.len - 5)

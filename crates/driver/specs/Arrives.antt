@@ -8,6 +8,7 @@ use Rattle.packet_parse.specs.Driver.{wanted_of}
 use Rattle.std.specs.declared.result.Result.{Result}
 use Rattle.std.specs.declared.result.Result.TheVariants.{Ok, Err}
 use Rattle.driver.specs.declared.arrive.Arrival.{Arrival}
+use Rattle.driver.specs.declared.arrive.There.{There}
 use Rattle.driver.specs.declared.arrive.Trouble.{Trouble}
 
 -- the first n bytes are there: as many as are wanted, fewer, or more are wanted than there is room for
@@ -16,3 +17,8 @@ Arrives room (Ok (Arrival.Read answer n)) = (n ≤ length room) × (wanted_of (t
 Arrives room (Ok (Arrival.Cut answer n)) = (n ≤ length room) × (n < wanted_of (take n room)) × (parsed answer ≡ parse_of (take n room))
 Arrives room (Err (Trouble.TooLong n)) = (wanted_of (take HEADER_LEN room) ≡ n) × (length room < n)
 Arrives room (Err (Trouble.Io e)) = Unit {0}
+
+-- how many are there of a part that has `want` bytes: all of them, or fewer
+abbrev pub Fills : (want : ℕ) → There → Type 0
+Fills want (There.All n) = n ≡ want
+Fills want (There.Ended n) = n < want

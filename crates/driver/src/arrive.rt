@@ -1,8 +1,8 @@
 // How a driver reads a frame off a line: five bytes, as many more as they say, and one parse.
-ghost use Rattle.std.specs.Prelude.{◌≡◌, ◌+◌, ◌-◌, ◌≤◌, length, take};
+ghost use Rattle.std.specs.Prelude.{◌≡◌, ◌+◌, ◌-◌, ◌≤◌, length, take, IfOk};
 ghost use Rattle.packet_head.specs.Numbers.{HEADER_LEN};
 ghost use Rattle.packet_parse.specs.Driver.{wanted_of};
-ghost use Rattle.driver.specs.Arrives.{Arrives};
+ghost use Rattle.driver.specs.Arrives.{Arrives, Fills};
 
 use input::fill;
 use packet_head::HEADER_LEN;
@@ -45,8 +45,26 @@ impl From<Error> for Trouble {
     }
 }
 
+// How many bytes of a part of the room are there: as many as it has, or fewer, since the line ended.
+#[derive(Clone, Copy)]
+enum There {
+    All(usize),
+    Ended(usize),
+}
+
+// Reads a part of the room full, as far as the line goes. It says which of the two it was, and callers do not count: so a part that is
+// too short for a frame makes no frame of a line that is open cut.
+fn fill_part<L: Read>(line: &mut L, part: &mut [u8]) -> Result<There, Error>
+    ensures { IfOk result (Fills (length part.old)) }
+{
+    let n = fill(line, part)?;
+    if n < part.len() {
+        return Ok(There::Ended(n));
+    }
+    Ok(There::All(n))
+}
+
 // The rest of a frame whose first five bytes are there and say its length, and the parse.
-#[tactic(auto, using(crate::proofs::Room::all_came))]
 fn rest_from<L: Read>(line: &mut L, room: &mut [u8], len: usize) -> Result<Arrival, Trouble>
     requires header_len_in_bounds { HEADER_LEN ≤ length room.old }
     requires room_value { wanted_of (take HEADER_LEN room.old) ≡ HEADER_LEN + (len - HEADER_LEN) }
@@ -56,32 +74,39 @@ fn rest_from<L: Read>(line: &mut L, room: &mut [u8], len: usize) -> Result<Arriv
     if room.len() < wanted {
         return Err(Trouble::TooLong(len));
     }
-    let came = HEADER_LEN + fill(line, &mut room[HEADER_LEN..wanted])?;
-    let answer = parse(&room[..came]);
-    if came < wanted {
-        return Ok(Arrival::Cut { answer, len: came });
+    match fill_part(line, &mut room[HEADER_LEN..wanted])? {
+        There::All(rest) => {
+            let all = HEADER_LEN + rest;
+            let answer = parse(&room[..all]);
+            Ok(Arrival::Read { answer, len: all })
+        }
+        There::Ended(rest) => {
+            let came = HEADER_LEN + rest;
+            let answer = parse(&room[..came]);
+            Ok(Arrival::Cut { answer, len: came })
+        }
     }
-    Ok(Arrival::Read { answer, len: came })
 }
 
 // The next frame of a line, read into room.
-#[tactic(auto, using(crate::proofs::Room::few_wanted, crate::proofs::Room::no_wanted, crate::proofs::Room::wanted_refused))]
+#[tactic(auto, using(crate::proofs::Room::no_wanted))]
 pub(crate) fn frame_from<L: Read>(line: &mut L, room: &mut [u8]) -> Result<Arrival, Trouble>
     ensures { Arrives room.new result }
 {
     if room.len() < HEADER_LEN {
         return Err(Trouble::TooLong(HEADER_LEN));
     }
-    let len = fill(line, &mut room[..HEADER_LEN])?;
-    if len < HEADER_LEN {
-        let answer = parse(&room[..len]);
-        return Ok(Arrival::Cut { answer, len });
-    }
-    match head(&room[..len]) {
-        Ok(h) => rest_from(line, room, h.len),
-        Err(e) => Ok(Arrival::Read {
-            answer: Err(e),
-            len,
+    match fill_part(line, &mut room[..HEADER_LEN])? {
+        There::All(five) => match head(&room[..five]) {
+            Ok(h) => rest_from(line, room, h.len),
+            Err(e) => Ok(Arrival::Read {
+                answer: Err(e),
+                len: five,
+            }),
+        },
+        There::Ended(few) => Ok(Arrival::Cut {
+            answer: parse(&room[..few]),
+            len: few,
         }),
     }
 }
