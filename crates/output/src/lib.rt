@@ -44,6 +44,8 @@ pub struct Writer<'a> {
     pub so_far: io::Result<()>,
 }
 
+const DIGITS: [u8; 16] = *b"0123456789ABCDEF";
+
 // Calls, and no `Display` of what is put; and the same fact at each: `KeepsFailure` is promised of each, and an edit breaks it.
 impl Writer<'_> {
     fn write<F: FnOnce(&HostRuntime) -> io::Result<()>>(&mut self, write: F) -> io::Result<()>
@@ -75,11 +77,16 @@ impl Writer<'_> {
         self.print(n)
     }
 
-    // A byte as it stands on the line: a space and two digits.
+    // A byte as it stands on the line: a space and two digits. By hand, since by `{b:02X}` a listing of long bodies takes five times the
+    // instructions (docs/DESIGN-PASS.md).
     pub fn put_byte(&mut self, b: u8) -> io::Result<()>
         ensures { KeepsFailure self.old.so_far self.new.so_far result }
     {
-        self.print(format_args!(" {b:02X}"))
+        self.put(&[
+            b' ',
+            DIGITS[usize::from(b / 16)],
+            DIGITS[usize::from(b % 16)],
+        ])
     }
 
     pub fn put_bytes(&mut self, bytes: &[u8]) -> io::Result<()>
