@@ -34,3 +34,6 @@ key_of ks r d h =
     let here : i < 16 = omega (arith, length-halves_bytes k, lt) in
     sym (ap (λ (n : ℕ). get_or (schedule_of ks) (n + i) 0) (sym (length-first_keys ks r (omega arith))) ∙ get_or-flat_map halves_bytes ks r i d 0 h lt)
     ∙ sym (get_or_block_of at i here))
+
+pub eleven_keys : (ks : List Halves) → length ks ≡ 11 → length (schedule_of ks) ≡ 176
+eleven_keys ks h = omega (arith, length-schedule_of ks, h)

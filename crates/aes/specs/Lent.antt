@@ -1,8 +1,8 @@
 -- What is lent for a run of blocks, as bytes: the entries of a table, and the round keys of a key made ready.
 -- Assumes nothing.
 use Rattle.std.specs.Prelude.{List, ℕ}
-use Rattle.aes.specs.declared.ready.Tables.{Tables}
-use Rattle.aes.specs.declared.ready.Key.{Key}
+use Rattle.aes.specs.declared.lent.Tables.{Tables}
+use Rattle.aes.specs.declared.lent.Key.{Key}
 use Rattle.aes.specs.Halves.{schedule_of}
 
 abbrev pub table_bytes : Tables → List ℕ

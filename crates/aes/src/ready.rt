@@ -1,20 +1,15 @@
 // What a run of blocks under one key goes by, made once for the run and lent for each block: the key made ready, and the tables,
-// which all keys share. A contract sees the bytes of either (specs/Lent), and no `impl Model` does it: both are copied, as the arrays
-// before them were, and a type with a view is not.
+// which all keys share. A contract sees the bytes of either (specs/Lent). Both are copied, so there is no `impl Model`: a struct with a
+// lifetime and a view cannot be `Copy`.
 ghost use Rattle.std.specs.Prelude.{◌≡◌};
 ghost use Rattle.aes.specs.Ready.{encrypt_tables, decrypt_tables, encrypt_key, decrypt_key};
 ghost use Rattle.aes.specs.Halves.{schedule_of};
 ghost use Rattle.aes.specs.Lent.{table_bytes, key_bytes};
 
 use crate::direction::{Deciphering, Direction, Enciphering};
+use crate::lent::{Key, Tables};
 use crate::round::Halves;
 use crate::schedule;
-
-// A substitution table, lent.
-#[derive(Clone, Copy)]
-pub struct Tables<'a> {
-    pub(crate) entries: &'a [u8; 256],
-}
 
 impl<'a> From<&'a [u8; 256]> for Tables<'a> {
     ghost from_gives = { λ entries t. table_bytes t ≡ entries.now };
@@ -24,15 +19,10 @@ impl<'a> From<&'a [u8; 256]> for Tables<'a> {
     }
 }
 
-// A key made ready: its round keys.
-#[derive(Clone, Copy)]
-pub struct Key {
-    pub(crate) round_keys: [Halves; 11],
-}
-
 impl From<[Halves; 11]> for Key {
     ghost from_gives = { λ round_keys k. key_bytes k ≡ schedule_of round_keys };
 
+    #[tactic(auto, using(crate::proofs::RoundKeys::eleven_keys))]
     fn from(round_keys: [Halves; 11]) -> Self {
         Key { round_keys }
     }
