@@ -52,8 +52,8 @@ enum There {
     Ended(usize),
 }
 
-// Reads a part of the room full, as far as the line goes. It says which of the two it was, and callers do not count: so a part that is
-// too short for a frame makes no frame of a line that is open cut.
+// Reads a part of the room full, as far as the line goes, and says which of the two it was: callers do not count, so who lends too short
+// a part does not take an open line for one that ended.
 fn fill_part<L: Read>(line: &mut L, part: &mut [u8]) -> Result<There, Error>
     ensures { IfOk result (Fills (length part.old)) }
 {

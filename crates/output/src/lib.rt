@@ -10,6 +10,8 @@ use std::fmt::Display;
 use std::io;
 pub use why::Why;
 
+const DIGITS: [u8; 16] = *b"0123456789ABCDEF";
+
 // Who speaks: the runtime, and the program's name.
 #[derive(Clone, Copy)]
 pub struct Program<'a> {
@@ -44,8 +46,6 @@ pub struct Writer<'a> {
     pub so_far: io::Result<()>,
 }
 
-const DIGITS: [u8; 16] = *b"0123456789ABCDEF";
-
 // Calls, and no `Display` of what is put; and the same fact at each: `KeepsFailure` is promised of each, and an edit breaks it.
 impl Writer<'_> {
     fn write<F: FnOnce(&HostRuntime) -> io::Result<()>>(&mut self, write: F) -> io::Result<()>
@@ -77,8 +77,8 @@ impl Writer<'_> {
         self.print(n)
     }
 
-    // A byte as it stands on the line: a space and two digits. By hand, since by `{b:02X}` a listing of long bodies takes five times the
-    // instructions (docs/DESIGN-PASS.md).
+    // A byte as it stands on the line: a space and two digits. By hand: tried by `{b:02X}`, and a listing of long bodies took 1.8 times
+    // as long (docs/DESIGN-PASS.md).
     pub fn put_byte(&mut self, b: u8) -> io::Result<()>
         ensures { KeepsFailure self.old.so_far self.new.so_far result }
     {

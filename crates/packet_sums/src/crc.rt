@@ -31,7 +31,6 @@ fn crc_word(z: u64) -> u16
 
 // The CRC of the bytes that stand before the words of eight: those but for an odd one behind FF FF, as a number, and then that one.
 // The start comes from FF FF, since 1D0F is their CRC from 0.
-#[tactic(auto, using(crate::proofs::WordLaws::word_nil))]
 fn crc_head(head: &[u8]) -> u16
     requires { length head.now < 8 }
     ensures { result ≡ crc_of head.now }

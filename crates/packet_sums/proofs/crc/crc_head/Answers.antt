@@ -1,5 +1,5 @@
 -- The pairs behind FF FF, and perhaps one byte more.
-use Rattle.std.proofs.Common.{get_or-drop, ◌≡◌, ℕ, suc, ◌+◌, ◌*◌, ◌/◌, ◌^◌, ◌<◌, List, [], length, get_or, take, drop, sym, ap, ◌∙◌, ap₂, arith, lit<}
+use Rattle.std.proofs.Common.{get_or-drop, ◌≡◌, ℕ, suc, ◌+◌, ◌*◌, ◌/◌, ◌^◌, ◌<◌, List, [], length, get_or, take, drop, sym, ap, ◌∙◌, ap₂, arith, rules, lit<}
 use Rattle.std.specs.Int.{w16, from_be_bytes}
 use Rattle.std.proofs.Math.Nat.{pow-le-pow_right}
 use lib.Seq.{take_all, take-add}
@@ -10,12 +10,15 @@ use Rattle.laws.proofs.Lists.{part_length, nothing}
 use Rattle.packet_sums.specs.Crc.{crc_start, crc_byte, crc_of}
 use Rattle.packet_sums.specs.Word.{word_from, crc_word}
 use Rattle.packet_sums.proofs.CrcLaws.{crc_nil, crc-take}
-use Rattle.packet_sums.proofs.WordLaws.{word-append, word_lt, chunk_at, pair_below}
+use Rattle.packet_sums.proofs.WordLaws.{word_nil, word-append, word_lt, chunk_at, pair_below}
 use Rattle.packet_sums.proofs.Step.{word-start}
 use Rattle.packet_sums.proofs.crc.crc_head.Goals as goal
 
 pub returns-then-is_empty : goal.returns-then-is_empty
 returns-then-is_empty c = let s = c.args.head.now in sym (crc_nil crc_start) ∙ ap crc_of (nothing s (eqb-true (length s) 0 (sym c.is_empty.ensures ∙ c.if-is_empty.true)))
+
+pub loop-pair-init : goal.loop-pair-init
+loop-pair-init c = search (rules, word_nil)
 
 pub loop-pair-preserved : goal.loop-pair-preserved
 loop-pair-preserved c =
