@@ -53,7 +53,9 @@ impl Writer<'_> {
         ensures { KeepsFailure self.old.so_far self.new.so_far result }
     {
         self.so_far?;
-        self.so_far = self.program.told(&[b"write"], write(self.program.rt));
+        if let Err(e) = write(self.program.rt) {
+            self.so_far = self.program.told(&[b"write"], Err(e));
+        }
         self.so_far
     }
 
