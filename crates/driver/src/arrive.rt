@@ -4,7 +4,6 @@ ghost use Rattle.packet_head.specs.Numbers.{HEADER_LEN};
 ghost use Rattle.packet_parse.specs.Driver.{wanted_of};
 ghost use Rattle.driver.specs.Arrives.{Arrives, Fills};
 
-use input::fill;
 use packet_head::HEADER_LEN;
 use packet_parse::{ParsedPacket, head, parse};
 use refusal::Refusal;
@@ -53,13 +52,18 @@ enum There {
 }
 
 // Reads a part of the room full, as far as the line goes, and says which of the two it was: callers do not count, so who lends too short
-// a part does not take an open line for one that ended.
+// a part does not take an open line for one that ended. A loop of its own: `input` reads for a program, and its own is closed, since no
+// promise leaves it one answer.
 fn fill_part<L: Read>(line: &mut L, part: &mut [u8]) -> Result<There, Error>
     ensures { IfOk result (Fills (length part.old)) }
 {
-    let n = fill(line, part)?;
-    if n < part.len() {
-        return Ok(There::Ended(n));
+    let mut n = 0;
+    while n < part.len() {
+        let more = line.read(&mut part[n..])?;
+        if more == 0 {
+            return Ok(There::Ended(n));
+        }
+        n += more;
     }
     Ok(There::All(n))
 }

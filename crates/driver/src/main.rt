@@ -78,7 +78,7 @@ fn main(rt: HostRuntime) {
         program,
         so_far: Ok(()),
     };
-    if listing::put_title(&mut to).is_ok() {
+    if to.put(&listing::TITLE).is_ok() {
         list(&mut to, &mut rt.stdin());
     }
 }

@@ -1,6 +1,15 @@
 // Lists the frames of a file or of standard input: at most 65,536 bytes of it, up to the end or the first refusal.
 #![tactic(auto)]
 
+use output::Program;
+
 fn main(rt: HostRuntime) {
-    listing::list_input(&rt, &mut io::large_buffer());
+    let program = Program {
+        rt: &rt,
+        name: b"framelist",
+    };
+    let mut buf = io::large_buffer();
+    if let Some(read) = input::read(&program, &mut buf) {
+        listing::list_read(&rt, &buf, read);
+    }
 }

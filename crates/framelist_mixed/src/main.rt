@@ -1,6 +1,15 @@
 // The same as framelist, once more so that the tests can hand it a file: sealed frames, one with a checksum, a refusal with frames after it.
 #![tactic(auto)]
 
+use output::Program;
+
 fn main(rt: HostRuntime) {
-    listing::list_input(&rt, &mut io::large_buffer());
+    let program = Program {
+        rt: &rt,
+        name: b"framelist",
+    };
+    let mut buf = io::large_buffer();
+    if let Some(read) = input::read(&program, &mut buf) {
+        listing::list_read(&rt, &buf, read);
+    }
 }

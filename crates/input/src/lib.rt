@@ -32,7 +32,7 @@ impl fmt::Display for Limit {
 
 // Reads until the input ends or buf is full. Which bytes come no contract can say; those that came lie within buf.
 // A loop by hand, since memory is fixed: `read_to_end` wants a `Vec`, and `read_exact` does not tell how many bytes a short input had.
-pub fn fill<R: Read>(from: &mut R, buf: &mut [u8]) -> Result<usize, Error>
+fn fill<R: Read>(from: &mut R, buf: &mut [u8]) -> Result<usize, Error>
     ensures { IfOk result (λ n. IsPrefixLen n buf.new) }
 {
     let mut n = 0;

@@ -3,7 +3,7 @@
 
 mod reason;
 
-ghost use Rattle.std.specs.Prelude.{◌≡◌, drop, take, OnErr, IfSome};
+ghost use Rattle.std.specs.Prelude.{◌≡◌, drop, take};
 ghost use Rattle.output.specs.Kept.{KeepsFailure};
 ghost use Rattle.packet_parse.specs.Frame.{parse_of, parsed};
 ghost use Rattle.listing.specs.Listed.{listed};
@@ -15,11 +15,14 @@ use reason::Reason;
 use refusal::Refusal;
 use std::io;
 
-// The listing's first line. This and the calls below are no `Display`: `KeepsFailure` is promised of each call of a writer.
-pub fn put_title(to: &mut Writer) -> io::Result<()>
+// A listing's first line.
+pub const TITLE: [u8; 26] = *b"at len addr sqn code data\n";
+
+// This and the calls below are no `Display`: `KeepsFailure` is promised of each call of a writer.
+fn put_title(to: &mut Writer) -> io::Result<()>
     ensures { KeepsFailure to.old.so_far to.new.so_far result }
 {
-    to.put(b"at len addr sqn code data\n")
+    to.put(&TITLE)
 }
 
 // A frame's line. The place goes beside the writer, here and where it is handed on: it is the frame's, and changes with each.
@@ -28,7 +31,8 @@ pub fn put_frame(to: &mut Writer, at: usize, p: ParsedPacket) -> io::Result<()>
 {
     let addr = p.addr.as_byte();
     let sqn = p.ctrl.sqn.value();
-    to.print(format_args!("{at} {} {addr} {sqn} {} {}\n", p.len, p.code, p.data_len))
+    let line = format_args!("{at} {} {addr} {sqn} {} {}\n", p.len, p.code, p.data_len);
+    to.put_number(b"", line)
 }
 
 fn say_refused(program: &Program, at: usize, e: Refusal) {
@@ -43,19 +47,20 @@ pub fn put_refusal(to: &mut Writer, at: usize, e: Refusal) -> io::Result<()>
     ensures { KeepsFailure to.old.so_far to.new.so_far result }
 {
     let number = e.number();
-    let wrote = to.print(format_args!("{at} refused {number}\n"));
+    let wrote = to.put_number(b"", format_args!("{at} refused {number}\n"));
     say_refused(&to.program, at, e);
     wrote
 }
 
-// The frame at a place of a capture. A refusal is the last line of the program's listing, and is said in words.
-pub fn frame_at(to: &mut Writer, capture: &[u8], at: usize) -> Result<ParsedPacket, Refusal>
-    ensures frame { parsed result ≡ parse_of (drop at capture.now) }
-    ensures kept { OnErr to.old.so_far (to.new.so_far ≡ to.old.so_far) }
+// The frame at a place of a capture. A refusal is the last line of the program's listing, and is said in words; by a copy of the writer,
+// so that the caller's stays, whatever came of that line.
+pub fn frame_at(to: &Writer, capture: &[u8], at: usize) -> Result<ParsedPacket, Refusal>
+    ensures { parsed result ≡ parse_of (drop at capture.now) }
 {
     let frame = parse(capture.get(at..).unwrap_or(&[]));
     if let Err(e) = frame {
-        let _ = put_refusal(to, at, e);
+        let mut last = *to;
+        let _ = put_refusal(&mut last, at, e);
     }
     frame
 }
@@ -79,7 +84,7 @@ pub fn list(rt: &HostRuntime, capture: &[u8]) -> usize
     let mut at = 0;
     // No `for`: where the next frame begins, the one that is read tells.
     while at < capture.len() {
-        let Ok(p) = frame_at(&mut to, capture, at) else {
+        let Ok(p) = frame_at(&to, capture, at) else {
             return at;
         };
         let _ = put_frame(&mut to, at, p);
@@ -88,22 +93,15 @@ pub fn list(rt: &HostRuntime, capture: &[u8]) -> usize
     at
 }
 
-// How many bytes of an input were read, and how many of these were frames.
-#[derive(Clone, Copy)]
-pub struct Passed {
-    pub read: usize,
-    pub frames: usize,
-}
-
-// The program framelist, with buf as the room for what it reads.
-pub fn list_input(rt: &HostRuntime, buf: &mut [u8]) -> Option<Passed>
-    ensures { IfSome result (λ passed. passed.frames ≡ listed (take passed.read buf.new)) }
+// The program framelist, once so many bytes of an input stand in room: the same of them, and where the room is full, that there may be
+// more is said.
+pub fn list_read(rt: &HostRuntime, room: &[u8], read: usize) -> usize
+    ensures { result ≡ listed (take read room.now) }
 {
-    let read = input::read(&framelist(rt), buf)?;
-    let frames = list(rt, &buf[..read]);
-    if read == buf.len() {
+    let passed = list(rt, room.get(..read).unwrap_or(room));
+    if read == room.len() {
         let limit = Limit(read);
         let _ = eprintln!(rt; "framelist: {limit}");
     }
-    Some(Passed { read, frames })
+    passed
 }

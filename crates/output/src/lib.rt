@@ -65,17 +65,20 @@ impl Writer<'_> {
         self.write(|rt| rt.stdout().write_all(text))
     }
 
-    pub fn print<D: Display + Drop>(&mut self, text: D) -> io::Result<()>
+    fn print<D: Display + Drop>(&mut self, text: D) -> io::Result<()>
         ensures { KeepsFailure self.old.so_far self.new.so_far result }
     {
         self.write(|rt| rt.print(text))
     }
 
-    // What a number is, and the number in decimal.
-    pub fn put_number(&mut self, name: &[u8], n: u64) -> io::Result<()>
+    // What a number is, and the number in decimal; or several, in one write, by `format_args!`, which has their names too, so that nothing
+    // stands in front: that costs no write.
+    pub fn put_number<D: Display + Drop>(&mut self, name: &[u8], n: D) -> io::Result<()>
         ensures { KeepsFailure self.old.so_far self.new.so_far result }
     {
-        self.put(name)?;
+        if !name.is_empty() {
+            self.put(name)?;
+        }
         self.print(n)
     }
 

@@ -26,7 +26,7 @@ pub fn list(rt: &HostRuntime, capture: &[u8]) -> Tally
     // No `for`: where the next frame begins, the one that is read tells.
     while t.bytes < capture.len() {
         let at = t.bytes;
-        let Ok(p) = frame_at(&mut to, capture, at) else {
+        let Ok(p) = frame_at(&to, capture, at) else {
             return t;
         };
         let payload = slices::part(capture, at + p.data_start, p.data_len);

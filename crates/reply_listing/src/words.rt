@@ -8,20 +8,29 @@ use std::io;
 fn put_device(to: &mut Writer, id: DeviceId) -> io::Result<()> {
     to.put(b" vendor")?;
     to.put_bytes(&[id.vendor1, id.vendor2, id.vendor3])?;
-    to.print(format_args!(
-        " model {} version {} serial {}",
-        id.model, id.version, id.serial
-    ))?;
-    to.print(format_args!(" firmware {} {} {}", id.major, id.minor, id.build))
+    to.put_number(
+        b"",
+        format_args!(
+            " model {} version {} serial {}",
+            id.model, id.version, id.serial
+        ),
+    )?;
+    to.put_number(
+        b"",
+        format_args!(" firmware {} {} {}", id.major, id.minor, id.build),
+    )
 }
 
 fn put_triples(to: &mut Writer, body: Body, payload: &[u8]) -> io::Result<()> {
     let triples = (0..payload.len() / 3).filter_map(|i| triple_at(body, payload, i));
     for t in triples {
-        to.print(format_args!(
-            " function {} compliance {} number {}",
-            t.function, t.compliance, t.number
-        ))?;
+        to.put_number(
+            b"",
+            format_args!(
+                " function {} compliance {} number {}",
+                t.function, t.compliance, t.number
+            ),
+        )?;
     }
     Ok(())
 }
@@ -31,18 +40,24 @@ fn put_body(to: &mut Writer, body: Body, payload: &[u8]) -> io::Result<()> {
     match body {
         Body::Ack => Ok(()),
         Body::Nak { error } => {
-            to.put_number(b" error ", error.into())?;
+            to.put_number(b" error ", error)?;
             to.put_bytes(rest(body, payload))
         }
         Body::PdId(id) => put_device(to, id),
         Body::PdCap => put_triples(to, body, payload),
-        Body::LStatR { tamper, power } => to.print(format_args!(" tamper {tamper} power {power}")),
+        Body::LStatR { tamper, power } => to.put_number(
+            b"",
+            format_args!(" tamper {tamper} power {power}"),
+        ),
         Body::Raw {
             reader,
             format,
             bits,
         } => {
-            to.print(format_args!(" reader {reader} format {format} bits {bits}"))?;
+            to.put_number(
+                b"",
+                format_args!(" reader {reader} format {format} bits {bits}"),
+            )?;
             to.put_bytes(rest(body, payload))?;
             match badge_number(body, payload) {
                 Some(n) => to.put_number(b" number ", n),
@@ -50,7 +65,7 @@ fn put_body(to: &mut Writer, body: Body, payload: &[u8]) -> io::Result<()> {
             }
         }
         Body::Keypad { reader, count } => {
-            to.print(format_args!(" reader {reader} digits {count}"))?;
+            to.put_number(b"", format_args!(" reader {reader} digits {count}"))?;
             to.put_bytes(rest(body, payload))
         }
     }
@@ -81,11 +96,11 @@ pub(crate) fn put_reply(
     let Reply::Clear(answer) = reply else {
         return Ok(());
     };
-    to.print(format_args!("{at} {}", p.addr.as_byte()))?;
+    to.put_number(b"", format_args!("{at} {}", p.addr.as_byte()))?;
     put_name(to, p.code)?;
     match answer {
         Ok(body) => put_body(to, body, payload)?,
-        Err(e) => to.put_number(b" refused ", e.number().into())?,
+        Err(e) => to.put_number(b" refused ", e.number())?,
     }
     to.put(b"\n")
 }

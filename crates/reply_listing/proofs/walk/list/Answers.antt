@@ -18,16 +18,16 @@ loop-t-init c =
 
 pub overflow_add-at : goal.overflow_add-at
 overflow_add-at c =
-    let i = frame_inside c.args.capture.now c.loop-t.t.bytes (fields c.in-Ok.p) (sym c.in-Ok.ensures.frame) in
+    let i = frame_inside c.args.capture.now c.loop-t.t.bytes (fields c.in-Ok.p) (sym c.in-Ok.ensures) in
     omega (arith, i.most, i.«data», c.loop-t.invariant.passed.within)
 
 pub count-requires : goal.count-requires
 count-requires c =
-    counted-room c.args.capture.now c.loop-t.t (fields c.in-Ok.p) c.loop-t-test.true (sym c.in-Ok.ensures.frame) c.loop-t.invariant (omega (arith, c.well_formed))
+    counted-room c.args.capture.now c.loop-t.t (fields c.in-Ok.p) c.loop-t-test.true (sym c.in-Ok.ensures) c.loop-t.invariant (omega (arith, c.well_formed))
 
 pub loop-t-smaller : goal.loop-t-smaller
 loop-t-smaller c =
-    let i = frame_inside c.args.capture.now c.loop-t.t.bytes (fields c.in-Ok.p) (sym c.in-Ok.ensures.frame) in
+    let i = frame_inside c.args.capture.now c.loop-t.t.bytes (fields c.in-Ok.p) (sym c.in-Ok.ensures) in
     let e : c.count.new.self.bytes ≡ c.loop-t.t.bytes + c.in-Ok.p.len = ap (λ (t : Tally). t.bytes) (c.count.ensures []) in
     omega (arith, e, i.least, i.most, c.loop-t-test.true)
 
@@ -39,15 +39,15 @@ loop-t-preserved c =
     let F = fields c.in-Ok.p in
     let shown = c.part-payload in
     let b : shown.result.now ≡ (listed_frame (drop t.bytes s) F).payload
-    = same_bytes shown.result shown.ensures ∙ payload_part s t.bytes F (omega arith) (sym c.in-Ok.ensures.frame) in
-    counted-more s t F c.loop-t-test.true (sym c.in-Ok.ensures.frame) c.loop-t.invariant c.count.new.self
+    = same_bytes shown.result shown.ensures ∙ payload_part s t.bytes F (omega arith) (sym c.in-Ok.ensures) in
+    counted-more s t F c.loop-t-test.true (sym c.in-Ok.ensures) c.loop-t.invariant c.count.new.self
     (c.count.ensures shown.result.now
     ∙ ap (tally_more t F.len) c.reply_in-reply.ensures
     ∙ ap (λ (d : List ℕ). tally_more t F.len (reply_in (record { fields = F; payload = d }))) b)
 
 pub returns-in_default : goal.returns-in_default
 returns-in_default c =
-    counted-refused _ c.loop-t.t _ _ c.loop-t-test.true (sym c.in_default.ensures.frame) c.loop-t.invariant
+    counted-refused _ c.loop-t.t _ _ c.loop-t-test.true (sym c.in_default.ensures) c.loop-t.invariant
 
 pub returns : goal.returns
 returns c = counted-all _ c.loop-t.t c.loop-t-test.false c.loop-t.invariant
