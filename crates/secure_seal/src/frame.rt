@@ -123,7 +123,7 @@ fn put_data(secure: SecureSession, encrypt: bool, data: &[u8], out: &mut [u8]) -
     ensures { (out.new ≡ (data_of encrypt secure.session.keys.s_enc (send_from secure.session) «data».now).bytes) × (result ≡ (data_of encrypt secure.session.keys.s_enc (send_from secure.session) «data».now).steps) }
 {
     if encrypt {
-        secure.seal_data(data, out).calls
+        secure.session.seal_data(data, out).calls
     } else {
         slices::copy(out, 0, data);
         0
@@ -151,12 +151,17 @@ fn put_frame(secure: SecureSession, total: usize, w: ToSeal, data: &[u8], out: &
     let end = total - AFTER_DATA;
     put_head(w, total, out);
     let hidden = put_data(secure, w.encrypt, data, &mut out[BEFORE_DATA..end]);
-    let (full, after) = secure.mac(&out[..end]);
+    let made = secure.session.mac(&out[..end]);
+    let full = match made.answer {
+        Ok(full) => full,
+        // never: the session is Secure by its type
+        Err(e) => return refused(secure.session, e),
+    };
     put_end(full, end, out);
     Sealed {
         answer: Ok(total),
         calls: hidden + secure_cipher::mac_calls(end),
-        session: after.session,
+        session: made.session,
     }
 }
 

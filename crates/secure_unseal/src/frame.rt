@@ -49,17 +49,18 @@ fn unseal_plain(secure: SecureSession, sealed: SealedFrame) -> Unsealed
 {
     let p = sealed.p;
     let calls = secure_cipher::mac_calls(sealed.mac_at);
-    match sealed.check(secure) {
-        Some(after) => Unsealed {
+    let checked = sealed.check(secure);
+    match checked.answer {
+        Ok(()) => Unsealed {
             answer: Ok(PayloadPlace {
                 in_work: false,
                 start: p.data_start,
                 len: p.data_len,
             }),
             calls,
-            session: after.session,
+            session: checked.session,
         },
-        None => stopped(secure.session, Refusal::BadCryptogram, calls),
+        Err(e) => stopped(checked.session, e, calls),
     }
 }
 
@@ -74,20 +75,21 @@ fn unseal_hidden(secure: SecureSession, sealed: SealedFrame, work: &mut [u8]) ->
         Err(e) => return stopped(secure.session, e, o.calls),
     };
     let calls = o.calls + secure_cipher::mac_calls(sealed.mac_at);
-    match sealed.check(secure) {
-        Some(after) => Unsealed {
+    let checked = sealed.check(secure);
+    match checked.answer {
+        Ok(()) => Unsealed {
             answer: Ok(PayloadPlace {
                 in_work: true,
                 start: 0,
                 len,
             }),
             calls,
-            session: after.session,
+            session: checked.session,
         },
-        None => {
+        Err(e) => {
             // what was opened must not stay behind
             wipe(work, p.data_len);
-            stopped(secure.session, Refusal::BadCryptogram, calls)
+            stopped(checked.session, e, calls)
         }
     }
 }

@@ -6,7 +6,7 @@ ghost use Rattle.packet_head.specs.Numbers.{MAC_LEN};
 use packet_head::MAC_LEN;
 use packet_parse::ParsedPacket;
 use secure_cipher::Ciphered;
-use secure_session::SecureSession;
+use secure_session::{SecureSession, Stepped};
 
 #[derive(Clone, Copy)]
 pub(crate) struct SealedFrame<'a> {
@@ -22,7 +22,8 @@ impl<'a> SealedFrame<'a> {
     ghost use Rattle.laws.specs.Bytes.{compl};
     ghost use Rattle.secure_cipher.specs.Cbc.{decrypt_of, cipher_told};
     ghost use Rattle.secure_session.specs.Chain.{recv_from};
-    ghost use Rattle.secure_session.specs.Secure.{checked_of, secure_told};
+    ghost use Rattle.secure_session.specs.Channel.{verify_of};
+    ghost use Rattle.secure_session.specs.Handshake.{stepped};
 
     // The four bytes of MAC.
     fn four(self) -> [u8; MAC_LEN]
@@ -32,11 +33,12 @@ impl<'a> SealedFrame<'a> {
         [frame[at], frame[at + 1], frame[at + 2], frame[at + 3]]
     }
 
-    // The MAC over the bytes before its own, against the four bytes: the session after it.
-    pub(crate) fn check(self, secure: SecureSession) -> Option<SecureSession>
-        ensures { secure_told result ≡ checked_of secure.session (take self.entry.mac_at self.entry.frame.now) (take MAC_LEN (drop self.entry.mac_at self.entry.frame.now)) }
+    // The MAC over the bytes before its own, against the four bytes.
+    pub(crate) fn check(self, secure: SecureSession) -> Stepped<()>
+        ensures { stepped result ≡ verify_of secure.session (take self.entry.mac_at self.entry.frame.now) (take MAC_LEN (drop self.entry.mac_at self.entry.frame.now)) }
     {
-        secure.verify(&self.frame[..self.mac_at], self.four())
+        let body = &self.frame[..self.mac_at];
+        secure.session.verify(body, self.four())
     }
 
     // The encrypted data, opened into the work buffer.
@@ -44,6 +46,7 @@ impl<'a> SealedFrame<'a> {
         ensures { cipher_told result work.new ≡ decrypt_of secure.session.keys.s_enc (compl (recv_from secure.session)) (take self.entry.p.data_len (drop self.entry.p.data_start self.entry.frame.now)) work.old }
     {
         let at = self.p.data_start;
-        secure.open_data(&self.frame[at..at + self.p.data_len], work)
+        let ct = &self.frame[at..at + self.p.data_len];
+        secure.session.open_data(ct, work)
     }
 }

@@ -3,6 +3,7 @@ use mathlib.Core.Path.{◌∙◌}
 use native.Mathlib.Omega.{arith}
 use Rattle.slices.proofs.CopyLaws.{copied_all}
 use Rattle.laws.proofs.Overwrite.{write_whole}
+use Rattle.secure_session.proofs.SecureLaws.{secure-seal-data}
 use Rattle.secure_session.proofs.SessionLaws.{send_block}
 use Rattle.secure_session.proofs.Owned.{secure-enc-block, secure-chain-kept}
 use Rattle.secure_seal.proofs.DataWritten.{hidden_written, plain_fits, plain-written}
@@ -12,7 +13,7 @@ pub returns-then-encrypt : goal.returns-then-encrypt
 returns-then-encrypt c = let a = c.args in
     hidden_written a.encrypt a.secure.session a.«data».now a.out.now _ c.seal_data.result
     c.if-encrypt.true (secure-enc-block a.secure c.well_formed.0) (send_block a.secure.session (secure-chain-kept a.secure c.well_formed.0))
-    (λ i. (c.type_inv.«data» i).fits) c.requires c.seal_data.ensures
+    (λ i. (c.type_inv.«data» i).fits) c.requires (c.seal_data.ensures ∙ secure-seal-data a.secure.session a.secure.secure a.«data».now a.out.now)
 
 pub returns-else-encrypt : goal.returns-else-encrypt
 returns-else-encrypt c = let a = c.args in
