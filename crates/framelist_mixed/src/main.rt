@@ -1,4 +1,5 @@
 // The same as framelist, once more so that the tests can hand it a file: sealed frames, one with a checksum, a refusal with frames after it.
+// Its lines are framelist's: see there.
 #![tactic(auto)]
 
 use output::Program;

@@ -152,10 +152,9 @@ fn put_frame(secure: SecureSession, total: usize, w: ToSeal, data: &[u8], out: &
     put_head(w, total, out);
     let hidden = put_data(secure, w.encrypt, data, &mut out[BEFORE_DATA..end]);
     let made = secure.session.mac(&out[..end]);
-    let full = match made.answer {
-        Ok(full) => full,
-        // never: the session is Secure by its type
-        Err(e) => return refused(secure.session, e),
+    // never refused: the session is Secure by its type
+    let Ok(full) = made.answer else {
+        return refused(made.session, Refusal::WrongState);
     };
     put_end(full, end, out);
     Sealed {

@@ -12,7 +12,7 @@ use Rattle.secure_session.specs.Channel.{session_mac, make_mac, verify_of, keys_
 use Rattle.secure_session.specs.Chain.{send_from, recv_from, sent, received}
 use Rattle.secure_session.specs.Session.{is_secure}
 use Rattle.secure_session.specs.declared.session.Session.{Session}
-use Rattle.secure_session.proofs.Cases.{step_done}
+use Rattle.secure_session.proofs.Cases.{step_done, step_no}
 
 module _ (s : Session) {i : Bool} (hi : i ≡ is_secure s.state) where
   -- another state
@@ -30,6 +30,10 @@ module _ (s : Session) {i : Bool} (hi : i ≡ is_secure s.state) where
       pub verify-done : {n : Session} → e ≡ true → n ≡ received s m → step_done tt n ≡ verify_of s l w
       unfolding verify_of
       verify-done y h = rw (← hi, t, ← hv, ← hm, ← he, y, h)
+
+      pub verify-wrong : e ≡ false → step_no 15 s ≡ verify_of s l w
+      unfolding verify_of
+      verify-wrong y = rw (← hi, t, ← hv, ← hm, ← he, y)
 
     pub keys-done : given s.keys ≡ keys_of s
     unfolding keys_of

@@ -5,6 +5,7 @@ ghost use Rattle.secure_session.specs.Session.{is_secure};
 ghost use Rattle.secure_session.specs.Handshake.{stepped, stepped_block, block_answer};
 ghost use Rattle.secure_session.specs.Channel.{session_mac, make_mac, verify_of, keys_of, last_other_mac_of, seal_data_of, open_data_of, keys_answer};
 
+use super::secure::begins_with;
 use super::session::{Session, State, Stepped};
 use packet_head::MAC_LEN;
 use refusal::Refusal;
@@ -26,38 +27,40 @@ impl Session {
         secure_cipher::cbc_mac(bytes, start, self.keys.s_mac1, self.keys.s_mac2)
     }
 
-    // The MAC of bytes that are sent, in full.
-    #[tactic(auto, unfolding(crate::specs::Channel::make_mac, crate::specs::Secure::secure_of))]
+    // The MAC of bytes that are sent, in full. This and `verify` do the work themselves, and not by their twins on a session that is Secure:
+    // handed over, it is copied once more, in each frame that is sealed and opened (docs/PERFORMANCE.md).
+    #[tactic(auto, unfolding(crate::specs::Channel::make_mac))]
     pub fn mac(self, bytes: &[u8]) -> Stepped<[u8; 16]>
         ensures { stepped_block result ≡ make_mac self bytes.now }
     {
-        let Some(secure) = self.secure() else {
+        if !self.is_secure() {
             return self.wrong_state();
-        };
-        let (full, after) = secure.mac(bytes);
+        }
+        let full = self.full_mac(self.send_from(), bytes).full;
         Stepped {
             answer: Ok(full),
-            session: after.session,
+            session: self.sent(full),
         }
     }
 
     // The four bytes of MAC that came with bytes.
-    #[tactic(auto, unfolding(crate::specs::Channel::verify_of, crate::specs::Secure::secure_of, crate::specs::Secure::checked_of))]
+    #[tactic(auto, unfolding(crate::specs::Channel::verify_of))]
     pub fn verify(self, bytes: &[u8], wire_mac: [u8; MAC_LEN]) -> Stepped<()>
         ensures { stepped result ≡ verify_of self bytes.now wire_mac }
     {
-        let Some(secure) = self.secure() else {
+        if !self.is_secure() {
             return self.wrong_state();
-        };
-        match secure.verify(bytes, wire_mac) {
-            Some(after) => Stepped {
-                answer: Ok(()),
-                session: after.session,
-            },
-            None => Stepped {
+        }
+        let m = self.full_mac(self.recv_from(), bytes);
+        if !begins_with(m, wire_mac) {
+            return Stepped {
                 answer: Err(Refusal::BadCryptogram),
                 session: self,
-            },
+            };
+        }
+        Stepped {
+            answer: Ok(()),
+            session: self.received(m),
         }
     }
 

@@ -21,7 +21,7 @@ pub struct SecureSession {
 
 // Whether a full MAC begins with four bytes: one comparison of two numbers, which no byte ends early. The MAC comes with the record
 // that holds it: a copy would be cut up for the comparison, and the chain value with it.
-fn begins_with(m: ChainMac, four: [u8; MAC_LEN]) -> bool
+pub(crate) fn begins_with(m: ChainMac, four: [u8; MAC_LEN]) -> bool
     ensures { result ≡ eql (take MAC_LEN m.full) four }
 {
     let front = [m.full[0], m.full[1], m.full[2], m.full[3]];

@@ -78,9 +78,9 @@ module _ (s : Session) (secure : is_secure s.state ≡ true) (f : List ℕ) (at 
   unfolding check
   check-passed h = verify-right s secure (take at f) (take 4 (drop at f)) r e h
 
-  pub check-refused : (x : Refusal) → r.answer ≡ Err x → ((check s.keys (recv_from s) f at).right ≡ false) × (number_of x ≡ 15) × (values_of x ≡ []) × (r.session ≡ s)
+  pub check-failed : (x : Refusal) → r.answer ≡ Err x → ((check s.keys (recv_from s) f at).right ≡ false) × (number_of x ≡ 15) × (values_of x ≡ []) × (r.session ≡ s)
   unfolding check
-  check-refused x h = wrong_or _ s _ r x (e ∙ secure-verify s secure (take at f) (take 4 (drop at f))) h
+  check-failed x h = wrong_or _ s _ r x (e ∙ secure-verify s secure (take at f) (take 4 (drop at f))) h
 
 -- what the check of a session that is one by its type answered
 module _ (s : Session) (f : List ℕ) (at : ℕ) where
@@ -89,9 +89,9 @@ module _ (s : Session) (f : List ℕ) (at : ℕ) where
   unfolding check
   check-right = mac_right s (take at f) (take 4 (drop at f))
 
-  pub check-failed : None ≡ checked_of s (take at f) (take 4 (drop at f)) → (check s.keys (recv_from s) f at).right ≡ false
+  pub check-wrong : None ≡ checked_of s (take at f) (take 4 (drop at f)) → (check s.keys (recv_from s) f at).right ≡ false
   unfolding check
-  check-failed = mac_wrong s (take at f) (take 4 (drop at f))
+  check-wrong = mac_wrong s (take at f) (take 4 (drop at f))
 
 -- types 15 and 16: n is what the check c took
 module _ (c : Checked) (p : Fields) (w : List ℕ) {n : ℕ} (en : n ≡ c.steps) where

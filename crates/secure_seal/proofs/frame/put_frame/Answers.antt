@@ -43,10 +43,10 @@ overflow_add-result c = let a = c.args in
     let e : c.mac_calls.result ≤ a.total + 1 = grind (arith, mac_few) in
     omega (arith, d, e, payload-fits a.w.encrypt a.«data».now, c.requires.1, c.requires.2)
 
-pub returns-in-Err : goal.returns-in-Err
-returns-in-Err c =
+pub returns-in_default : goal.returns-in_default
+returns-in_default c =
     let a = c.args in
-    absurd (mac-not-refused a.secure.session a.secure.secure _ _ c.mac-made.ensures c.in-Err.is)
+    absurd (mac-not-refused a.secure.session a.secure.secure _ _ c.mac-made.ensures c.in_default.is)
 
 pub returns : goal.returns
 returns c =

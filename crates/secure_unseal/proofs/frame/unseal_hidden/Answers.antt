@@ -12,7 +12,7 @@ use Rattle.secure_session.specs.declared.session.Session.{Session}
 use Rattle.secure_session.proofs.SessionLaws.{recv_block}
 use Rattle.secure_session.proofs.Owned.{secure-enc-block, secure-chain-kept}
 use Rattle.secure_unseal.specs.Unseal.{check}
-use Rattle.secure_unseal.proofs.Cases.{stops, stops-refused, moves, check-passed, check-refused, hidden-no, hidden-right, hidden-wrong}
+use Rattle.secure_unseal.proofs.Cases.{stops, stops-refused, moves, check-passed, check-failed, hidden-no, hidden-right, hidden-wrong}
 use Rattle.secure_unseal.proofs.Wiping.{found-steps, found-room, found-wiped, check-steps, check-counted}
 use Rattle.secure_unseal.proofs.frame.unseal_hidden.Goals as goal
 
@@ -46,7 +46,7 @@ returns-in-Ok-answer c =
 pub returns-in-Err-answer : goal.returns-in-Err-answer
 returns-in-Err-answer c =
     let a = c.args in
-    let y = check-refused a.secure.session a.secure.secure a.sealed.frame.now a.sealed.mac_at c.check-checked.result c.check-checked.ensures c.in-Err-answer.e c.in-Err-answer.is in
+    let y = check-failed a.secure.session a.secure.secure a.sealed.frame.now a.sealed.mac_at c.check-checked.result c.check-checked.ensures c.in-Err-answer.e c.in-Err-answer.is in
     let z = found-wiped a.secure.session.keys.s_enc (recv_from a.secure.session) a.sealed.frame.now a.sealed.p.data_start a.sealed.p.data_len a.work.now a.sealed.data_inside c.open_data-o.ensures _ (ap length_answer c.in-Ok.is)
     (secure-enc-block a.secure c.well_formed.0) (recv_block a.secure.session (secure-chain-kept a.secure c.well_formed.0)).size a.sealed.bytes in
     stops-refused y.1 y.2 y.3 c.stopped-in-Err-answer.ensures
