@@ -1,6 +1,6 @@
 -- What the calls of the channel come to on a session that is Secure.
 -- Assumes nothing.
-use Rattle.std.specs.Prelude.{Option, Some, None, Result, Ok, ⊤}
+use Rattle.std.specs.Prelude.{Option, Some, None, Result, Ok, Err, ⊤}
 use mathlib.Core.Bool.{Bool, true, false, cond}
 use mathlib.Core.List.{List, []}
 use mathlib.Core.Path.{◌≡◌, refl, sym, ap, ◌∙◌}
@@ -8,12 +8,13 @@ use Prim.Native.Nat.{ℕ}
 use lib.ListN.{take}
 use Rattle.laws.specs.Answer.{Answer.given, Answer.refused}
 use Rattle.laws.specs.Bytes.{compl, eql}
-use Rattle.laws.proofs.Answers.{given-refused}
+use Rattle.laws.proofs.Answers.{given_inj, given-refused}
+use Rattle.refusal.specs.Paper.{number_of, values_of}
 use Rattle.refusal.specs.Reading.{outcome_answer}
 use Rattle.refusal.specs.declared.Refusal.{Refusal}
 use Rattle.secure_cipher.specs.Cbc.{encrypt_of, decrypt_of}
 use Rattle.secure_session.specs.Channel.{session_mac, make_mac, verify_of, seal_data_of, open_data_of}
-use Rattle.secure_session.specs.Handshake.{Step, stepped}
+use Rattle.secure_session.specs.Handshake.{Step, stepped, stepped_block, block_answer}
 use Rattle.secure_session.specs.Secure.{secure_of, checked_of}
 use Rattle.secure_session.specs.Chain.{send_from, recv_from, sent, received}
 use Rattle.secure_session.specs.Session.{is_secure}
@@ -61,6 +62,15 @@ right_or true s t r e h = (refl, ap (λ (x : Step (Unit {0})). x.session) e)
 right_or false s t r e h =
     absurd (given-refused (ap (λ (o : Result ⊤ Refusal). outcome_answer {A = Unit {0}} o tt) (sym h) ∙ ap (λ (x : Step (Unit {0})). x.answer) e))
 
+wrong_or : (b : Bool) (s t : Session) (r : Stepped ⊤) (x : Refusal) → stepped r ≡ verified b s t → r.answer ≡ Err x
+    → (b ≡ false) × (number_of x ≡ 15) × (values_of x ≡ []) × (r.session ≡ s)
+wrong_or true s t r x e h =
+    absurd (given-refused (sym (ap (λ (y : Step (Unit {0})). y.answer) e) ∙ ap (λ (o : Result ⊤ Refusal). outcome_answer {A = Unit {0}} o tt) h))
+wrong_or false s t r x e h =
+    let q : refused (number_of x) (values_of x) ≡ refused 15 [] =
+    ap (λ (o : Result ⊤ Refusal). outcome_answer {A = Unit {0}} o tt) (sym h) ∙ ap (λ (y : Step (Unit {0})). y.answer) e in
+    (refl, cc, cc, ap (λ (y : Step (Unit {0})). y.session) e)
+
 module _ (s : Session) (secure : is_secure s.state ≡ true) where
   pub secure-mac : (l : List ℕ) → let m = (session_mac s (send_from s) l).full in make_mac s l ≡ record { answer = given m; session = sent s m }
   unfolding make_mac
@@ -81,6 +91,22 @@ module _ (s : Session) (secure : is_secure s.state ≡ true) where
   secure-open-data c o = rw secure
 
   -- as the code has it
+  module _ (l : List ℕ) (r : Stepped (List ℕ)) (e : stepped_block r ≡ make_mac s l) where
+    abbrev full : List ℕ
+    full = (session_mac s (send_from s) l).full
+
+    pub mac_there : {f : List ℕ} → r.answer ≡ Ok f → (f ≡ full) × (r.session ≡ sent s full)
+    mac_there h =
+        let m = e ∙ secure-mac l in
+        (given_inj _ _ (ap block_answer (sym h) ∙ ap (λ (x : Step (List ℕ)). x.answer) m), ap (λ (x : Step (List ℕ)). x.session) m)
+
+    pub mac-not-refused : {x : Refusal} → r.answer ≡ Err x → ⊥
+    mac-not-refused h = given-refused (sym (ap (λ (x : Step (List ℕ)). x.answer) (e ∙ secure-mac l)) ∙ ap block_answer h)
+
   pub verify-right : (l w : List ℕ) (r : Stepped ⊤) → stepped r ≡ verify_of s l w → r.answer ≡ Ok tt
       → let m = (session_mac s (recv_from s) l).full in (eql (take 4 m) w ≡ true) × (r.session ≡ received s m)
   verify-right l w r e h = right_or _ s _ r (e ∙ secure-verify l w) h
+
+  pub verify-wrong-mac : (l w : List ℕ) (r : Stepped ⊤) (x : Refusal) → stepped r ≡ verify_of s l w → r.answer ≡ Err x
+      → (eql (take 4 (session_mac s (recv_from s) l).full) w ≡ false) × (number_of x ≡ 15) × (values_of x ≡ []) × (r.session ≡ s)
+  verify-wrong-mac l w r x e h = wrong_or _ s _ r x (e ∙ secure-verify l w) h

@@ -9,24 +9,22 @@ use lib.Dec.{ltb}
 use lib.ListN.{length, take, drop}
 use Rattle.laws.specs.Answer.{Answer, Answer.given, Answer.refused}
 use Rattle.laws.specs.Bytes.{compl}
-use Rattle.laws.proofs.Answers.{given-refused}
 use Rattle.laws.proofs.Lists.{part_length}
 use Rattle.packet_head.specs.Block.{has_mac, is_encrypted}
 use Rattle.packet_parse.specs.Frame.{Fields, type_in, mac_start_of, parse_of}
 use Rattle.refusal.specs.Paper.{refusal_of, number_of, values_of}
-use Rattle.refusal.specs.Reading.{outcome_answer}
 use Rattle.refusal.specs.declared.Refusal.{Refusal}
-use Rattle.std.specs.Prelude.{Some, None, Ok, Err, Result, ⊤}
+use Rattle.std.specs.Prelude.{Some, None, Ok, Err, ⊤}
 use Rattle.secure_cipher.specs.Cbc.{Done, Opening, cipher_stop, decrypt_of, opened_into, wiped}
 use Rattle.secure_keys.specs.declared.crypto.SessionKeys.{SessionKeys}
 use Rattle.secure_session.specs.Chain.{recv_from, received}
 use Rattle.secure_session.specs.Session.{is_secure}
-use Rattle.secure_session.specs.Handshake.{Step, stepped}
+use Rattle.secure_session.specs.Handshake.{stepped}
 use Rattle.secure_session.specs.Channel.{verify_of}
 use Rattle.secure_session.specs.Secure.{secure_of, checked_of}
 use Rattle.secure_session.specs.declared.session.Session.{Session}
 use Rattle.secure_session.specs.declared.session.Stepped.{Stepped}
-use Rattle.secure_session.proofs.SecureLaws.{secure_taken, not_secure, mac_right, mac_wrong, secure-verify, verify-right}
+use Rattle.secure_session.proofs.SecureLaws.{secure_taken, not_secure, mac_right, mac_wrong, verify-right, verify-wrong-mac}
 use Rattle.secure_unseal.specs.Unseal.{Checked, Place, UnsealRun, unseal_stop, check, open_data, unseal_plain, unseal_opened, unseal_hidden, unseal_parsed, unseal_run, unseal_of, after_unseal, unsealed_on, unseal_told}
 use Rattle.secure_unseal.specs.Parts.{stopped}
 use Rattle.secure_session.specs.declared.session.Processed.{Processed}
@@ -61,17 +59,6 @@ moves s m {p = p} {w = w} {n = n} h k = ap (λ (y : Session). record { answer = 
 
 -- ---- the MAC's check
 
--- it refuses by 15 alone, where the MAC is wrong, and leaves the session
-wrong_or : (b : Bool) (s t : Session) (r : Stepped ⊤) (x : Refusal)
-    → stepped r ≡ cond b (record { answer = given tt; session = t }) (record { answer = refused 15 []; session = s }) → r.answer ≡ Err x
-    → (b ≡ false) × (number_of x ≡ 15) × (values_of x ≡ []) × (r.session ≡ s)
-wrong_or true s t r x e h =
-    absurd (given-refused (sym (ap (λ (y : Step (Unit {0})). y.answer) e) ∙ ap (λ (o : Result ⊤ Refusal). outcome_answer {A = Unit {0}} o tt) h))
-wrong_or false s t r x e h =
-    let q : refused (number_of x) (values_of x) ≡ refused 15 [] =
-    ap (λ (o : Result ⊤ Refusal). outcome_answer {A = Unit {0}} o tt) (sym h) ∙ ap (λ (y : Step (Unit {0})). y.answer) e in
-    (refl, cc, cc, ap (λ (y : Step (Unit {0})). y.session) e)
-
 -- what `verify` came to, on any session that is Secure
 module _ (s : Session) (secure : is_secure s.state ≡ true) (f : List ℕ) (at : ℕ) (r : Stepped ⊤) (e : stepped r ≡ verify_of s (take at f) (take 4 (drop at f))) where
   pub check-passed : r.answer ≡ Ok tt → ((check s.keys (recv_from s) f at).right ≡ true) × (r.session ≡ received s (check s.keys (recv_from s) f at).full)
@@ -80,7 +67,7 @@ module _ (s : Session) (secure : is_secure s.state ≡ true) (f : List ℕ) (at 
 
   pub check-failed : (x : Refusal) → r.answer ≡ Err x → ((check s.keys (recv_from s) f at).right ≡ false) × (number_of x ≡ 15) × (values_of x ≡ []) × (r.session ≡ s)
   unfolding check
-  check-failed x h = wrong_or _ s _ r x (e ∙ secure-verify s secure (take at f) (take 4 (drop at f))) h
+  check-failed x h = verify-wrong-mac s secure (take at f) (take 4 (drop at f)) r x e h
 
 -- what the check of a session that is one by its type answered
 module _ (s : Session) (f : List ℕ) (at : ℕ) where

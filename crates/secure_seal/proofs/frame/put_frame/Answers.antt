@@ -1,40 +1,17 @@
 -- `secure_seal::frame::put_frame` meets its contract: its parts are written one after the other (proofs/FrameWritten).
-use Rattle.std.specs.Prelude.{Ok, Err}
-use mathlib.Core.List.{List}
-use mathlib.Core.Bool.{true}
-use mathlib.Core.Path.{◌≡◌, refl, sym, ap, ◌∙◌}
-use Prim.Native.Nat.{ℕ, ◌+◌, ◌-◌, ◌≤◌}
+use mathlib.Core.Path.{◌≡◌, refl, ◌∙◌}
+use Prim.Native.Nat.{◌+◌, ◌-◌, ◌≤◌}
 use native.Mathlib.Omega.{arith}
 use lib.ListN.{length, take, drop}
 use borrow.Rule.Slice.PartMut.{put_mid}
-use Rattle.laws.proofs.Answers.{given_inj, given-refused}
 use Rattle.laws.proofs.Lists.{part_length}
-use Rattle.refusal.specs.declared.Refusal.{Refusal}
-use Rattle.secure_session.specs.Chain.{send_from, sent}
-use Rattle.secure_session.specs.Channel.{session_mac, make_mac}
-use Rattle.secure_session.specs.Handshake.{Step, stepped_block, block_answer}
-use Rattle.secure_session.specs.Session.{is_secure}
-use Rattle.secure_session.specs.declared.session.Session.{Session}
-use Rattle.secure_session.specs.declared.session.Stepped.{Stepped}
-use Rattle.secure_session.proofs.SecureLaws.{secure-mac}
+use Rattle.secure_session.specs.Chain.{send_from}
+use Rattle.secure_session.proofs.SecureLaws.{mac_there, mac-not-refused}
 use Rattle.secure_seal.specs.Seal.{data_len_for, asked_of}
 use Rattle.secure_seal.proofs.FrameWritten.{frame-put, data_steps, mac_few}
 use Rattle.secure_seal.proofs.SealLaws.{payload-fits}
 use borrow.Author.Rules.{rules}
 use Rattle.secure_seal.proofs.frame.put_frame.Goals as goal
-
--- what the session's `mac` of bytes came to: it is Secure, so they have one
-module _ (s : Session) (secure : is_secure s.state ≡ true) (l : List ℕ) (r : Stepped (List ℕ)) (e : stepped_block r ≡ make_mac s l) where
-  abbrev full : List ℕ
-  full = (session_mac s (send_from s) l).full
-
-  mac-there : {f : List ℕ} → r.answer ≡ Ok f → (f ≡ full) × (r.session ≡ sent s full)
-  mac-there h =
-      let m = e ∙ secure-mac s secure l in
-      (given_inj _ _ (ap block_answer (sym h) ∙ ap (λ (x : Step (List ℕ)). x.answer) m), ap (λ (x : Step (List ℕ)). x.session) m)
-
-  mac-not-refused : {x : Refusal} → r.answer ≡ Err x → ⊥
-  mac-not-refused h = given-refused (sym (ap (λ (x : Step (List ℕ)). x.answer) (e ∙ secure-mac s secure l)) ∙ ap block_answer h)
 
 pub overflow_add-result : goal.overflow_add-result
 overflow_add-result c = let a = c.args in
@@ -60,6 +37,6 @@ returns c =
     let g : length y ≡ length (take (t - 6 - 8) (drop 8 o₁)) = search rules in
     let ly : length y ≡ data_len_for a.w.encrypt a.«data».now =
     g ∙ part_length o₁ 8 (t - 6 - 8) (omega (arith, l₁, c.requires.1, c.requires.3)) ∙ omega (arith, c.requires.1) in
-    let made = mac-there a.secure.session a.secure.secure (take (t - 6) (put_mid 8 (t - 6 - 8) o₁ y)) c.mac-made.result c.mac-made.ensures c.in-Ok.is in
+    let made = mac_there a.secure.session a.secure.secure (take (t - 6) (put_mid 8 (t - 6 - 8) o₁ y)) c.mac-made.result c.mac-made.ensures c.in-Ok.is in
     frame-put a.secure.session (asked_of a.w a.«data».now) a.out.now o₁ y _ t c.requires.1 c.requires.3 c.put_data-hidden.ensures.0 ly c.put_head.ensures refl
     f _ _ c.mac_calls.result c.put_data-hidden.result lf c.put_data-hidden.ensures.1 c.mac_calls.ensures made.0 made.1 c.put_end.ensures
