@@ -52,8 +52,7 @@ enum There {
 }
 
 // Reads a part of the room full, as far as the line goes, and says which of the two it was: callers do not count, so who lends too short
-// a part does not take an open line for one that ended. A loop of its own: `input` reads for a program, and its own is closed, since no
-// promise leaves it one answer.
+// a part does not take an open line for one that ended. A loop of its own: `fill` of `input` answers a number alone.
 fn fill_part<L: Read>(line: &mut L, part: &mut [u8]) -> Result<There, Error>
     ensures { IfOk result (Fills (length part.old)) }
 {

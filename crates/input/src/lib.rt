@@ -2,8 +2,12 @@
 // or missing. What goes wrong is said on standard error, in a line that begins `PROGRAM: cannot `; `run` makes the exit status of it.
 #![tactic(auto)]
 
+#[cfg(test)]
+mod tests;
+
 ghost use Rattle.std.specs.Prelude.{IfOk, IfSome};
 ghost use Rattle.io.specs.Counts.{IsPrefixLen};
+ghost use Rattle.input.specs.Filled.{FilledFrom};
 
 use output::Program;
 use std::env::{Env, FillError};
@@ -30,10 +34,13 @@ impl fmt::Display for Limit {
     }
 }
 
-// Reads until the input ends or buf is full. Which bytes come no contract can say; those that came lie within buf.
+// Reads until the input ends or buf is full. Where a number is answered, that is promised of a reader whose bytes are known, as a slice's
+// are; which bytes a file has no contract can say: those that came lie within buf.
 // A loop by hand, since memory is fixed: `read_to_end` wants a `Vec`, and `read_exact` does not tell how many bytes a short input had.
-fn fill<R: Read>(from: &mut R, buf: &mut [u8]) -> Result<usize, Error>
-    ensures { IfOk result (λ n. IsPrefixLen n buf.new) }
+#[tactic(auto, using(crate::proofs::Coming::came_more))]
+pub fn fill<R: Read>(from: &mut R, buf: &mut [u8]) -> Result<usize, Error>
+    ensures bound { IfOk result (λ n. IsPrefixLen n buf.new) }
+    ensures bytes { FilledFrom (R.remaining from.old) (R.remaining from.new) result buf.new }
 {
     let mut n = 0;
     while n < buf.len() {
